@@ -1,0 +1,4 @@
+pub mod Months
+pub mod Shares
+pub mod Spreads
+pub mod Twelfths

@@ -1,0 +1,4 @@
+pub mod Calendar
+pub mod Instalments
+pub mod Postage
+pub mod Sharing
