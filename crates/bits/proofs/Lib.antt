@@ -1,0 +1,6 @@
+pub mod Digits
+pub mod Pieces
+pub mod Turns
+pub mod Laws
+pub mod Trips
+pub mod Twos

@@ -1,0 +1,9 @@
+pub mod Refusals
+pub mod Faults
+pub mod Bits
+pub mod Ahead
+pub mod Written
+pub mod Layout
+pub mod Laid
+pub mod Forms
+pub mod Signs
