@@ -1,0 +1,13 @@
+use Rattle.records.specs.Points.{point-form}
+use Rattle.yearfile.proofs.Laying.{lay-never, lay-done}
+use Rattle.yearfile.proofs.lay.PointLay.lay.Needs as need
+
+pub unreachable-requires : need.unreachable-requires
+unfolding point-form
+unreachable-requires c κs = lay-never point-form (c .args .self .now) (c .args .at) (c .args .buffer .now) (c .pre .room) _ (c .pre .ranged, tt) (c .in-Err .ensures tt .fault)
+
+pub returns : need.returns
+unfolding point-form
+returns c =
+    let d = lay-done point-form (c .args .self .now) (c .args .at) (c .args .buffer .now) (c .pre .room) _ _ (c .in-Ok .ensures tt .count) (c .in-Ok .ensures tt .after) in
+    record { after = d .0; end = d .1 }
