@@ -1,4 +1,4 @@
-// The records of a year held against each other, in the order of the faults 4 to 7.
+// Records of a year held against each other: the faults 4 and 5.
 ghost use mathlib.Core.Path.{_≡_};
 ghost use Prim.Native.Nat.{_≤_, _<_};
 ghost use lib.ListN.{length};

@@ -4,3 +4,4 @@ pub mod Turns
 pub mod Laws
 pub mod Trips
 pub mod Twos
+pub mod Counting

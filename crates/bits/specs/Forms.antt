@@ -25,9 +25,9 @@ values-of F bytes = values-in (F .fields []) (bits bytes)
 unfoldable pub record-of : {X : Type 0} → Form X → List ℕ → X
 record-of F bytes = F .named (values-of F bytes)
 
--- the fault of the first field of these bytes that breaks its range, where they are record number `place`
+-- the fault of the first field of these bytes that breaks its range, where they are record number `nth`
 unfoldable pub record-fault : {X : Type 0} → Form X → ℕ → List ℕ → Option Fault
-record-fault F place bytes = first-bad place 1 (F .fields (values-of F bytes)) (values-of F bytes)
+record-fault F nth bytes = first-bad nth 1 (F .fields (values-of F bytes)) (values-of F bytes)
 
 -- each value of a record keeps its range
 abbrev pub In-range : {X : Type 0} → Form X → X → Type 0
@@ -37,6 +37,6 @@ In-range F x = All-keep (F .fields (F .values x)) (F .values x) × F .limits x
 unfoldable pub record-bytes : {X : Type 0} → Form X → X → List ℕ
 record-bytes F x = bytesOf (F .size) (packed (F .fields []) (F .values x))
 
--- why a record is not written as record number `place` into a buffer of so many bytes
+-- why a record is not written as record number `nth` into a buffer of so many bytes
 unfoldable pub record-refusal : {X : Type 0} → Form X → ℕ → X → ℕ → Option Fault
-record-refusal F place x room = row-refusal place (F .size) (F .fields (F .values x)) (F .values x) room
+record-refusal F nth x room = row-refusal nth (F .size) (F .fields (F .values x)) (F .values x) room

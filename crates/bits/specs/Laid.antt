@@ -23,10 +23,10 @@ infixr 4 _orElse_
 abbrev pub room-fault : ℕ → ℕ → Option Fault
 room-fault count size = cond (ltb size count) (Some buffer-fault) None
 
--- why a row of values is not written as record number `place`, in `count` bytes, into a buffer of `size` bytes: the
+-- why a row of values is not written as record number `nth`, in `count` bytes, into a buffer of `size` bytes: the
 -- first value that breaks its range, and then the want of room
 abbrev pub row-refusal : ℕ → ℕ → List Field → List ℕ → ℕ → Option Fault
-row-refusal place count fs vs size = first-bad place 1 fs vs orElse room-fault count size
+row-refusal nth count fs vs size = first-bad nth 1 fs vs orElse room-fault count size
 
 -- the buffer with these bytes at its front, and the rest as it was
 abbrev pub over : List ℕ → List ℕ → List ℕ

@@ -67,9 +67,9 @@ keeps f v = eqb (meaning (f .range) (f .width) (v % 2 ^ f .width)) v && within (
 
 -- of the fields of a record, counted from n, the fault of the first whose value breaks its range
 unfoldable pub first-bad : ℕ → ℕ → List Field → List ℕ → Option Fault
-first-bad place n [] vs = None
-first-bad place n (f ∷ fs) [] = None
-first-bad place n (f ∷ fs) (v ∷ vs) = cond (keeps f v) (first-bad place (suc n) fs vs) (Some (field-fault place n))
+first-bad nth n [] vs = None
+first-bad nth n (f ∷ fs) [] = None
+first-bad nth n (f ∷ fs) (v ∷ vs) = cond (keeps f v) (first-bad nth (suc n) fs vs) (Some (field-fault nth n))
 
 -- the same in words of order: what a value that keeps its range is
 abbrev pub Within : Range → ℕ → Type 0

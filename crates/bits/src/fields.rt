@@ -125,7 +125,7 @@ pub fn encode<const M: usize>(fields: &[Field], values: &[u64]) -> [u8; M]
 }
 
 // Lays bytes at the front of a buffer, and answers how many.
-pub fn place(bytes: &[u8], buffer: &mut [u8]) -> Result<usize, Fault>
+pub fn lay_front(bytes: &[u8], buffer: &mut [u8]) -> Result<usize, Fault>
     ensures fault { λ r. ⌜ errPart r ≡ room-fault (length (now (bytes .entry))) (length (now (buffer .entry))) ⌝ }
     ensures count { λ r. ⌜ made r (λ n. n ≡ length (now (bytes .entry))) ⌝ }
     ensures after { λ r. ⌜ now (buffer .exit) ≡ laid r (now (bytes .entry)) (now (buffer .entry)) ⌝ }

@@ -2,6 +2,7 @@
 pub mod fault;
 pub mod field;
 pub mod fields;
+pub mod lengths;
 pub mod reader;
 pub mod reads;
 pub mod refusal;

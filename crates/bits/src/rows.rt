@@ -12,7 +12,7 @@ use crate::field::Field;
 use crate::fields::check;
 use crate::fields::decode;
 use crate::fields::encode;
-use crate::fields::place;
+use crate::fields::lay_front;
 
 // The values of a record, or the fault of the first that breaks its range.
 pub fn read_row<const N: usize>(
@@ -52,5 +52,5 @@ pub fn write_row<const M: usize>(
 {
     check(fields, values, record)?;
     let bytes: [u8; M] = encode(fields, values);
-    place(&bytes, buffer)
+    lay_front(&bytes, buffer)
 }

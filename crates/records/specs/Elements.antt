@@ -28,9 +28,9 @@ element-form = record { size = 9; fields = λ _. element-fields; values = elemen
 abbrev pub element-of : List ℕ → Element
 element-of bytes = record-of element-form bytes
 
--- the fault of the first field of these bytes that breaks its range, where they are record number `place`
+-- the fault of the first field of these bytes that breaks its range, where they are record number `nth`
 abbrev pub element-fault : ℕ → List ℕ → Option Fault
-element-fault place bytes = record-fault element-form place bytes
+element-fault nth bytes = record-fault element-form nth bytes
 
 -- each field keeps its range
 abbrev pub ElementIn : Element → Type 0
@@ -40,6 +40,6 @@ ElementIn e = All-keep element-fields (element-values e)
 abbrev pub element-bytes : Element → List ℕ
 element-bytes e = record-bytes element-form e
 
--- why an element is not written as record number `place` into a buffer of so many bytes
+-- why an element is not written as record number `nth` into a buffer of so many bytes
 abbrev pub element-refusal : ℕ → Element → ℕ → Option Fault
-element-refusal place e room = record-refusal element-form place e room
+element-refusal nth e room = record-refusal element-form nth e room

@@ -31,9 +31,9 @@ point-form = record { size = 15; fields = λ _. point-fields; values = point-val
 abbrev pub point-of : List ℕ → Point
 point-of bytes = record-of point-form bytes
 
--- the fault of the first field of these bytes that breaks its range, where they are record number `place`
+-- the fault of the first field of these bytes that breaks its range, where they are record number `nth`
 abbrev pub point-fault : ℕ → List ℕ → Option Fault
-point-fault place bytes = record-fault point-form place bytes
+point-fault nth bytes = record-fault point-form nth bytes
 
 -- each field keeps its range
 abbrev pub PointIn : Point → Type 0
@@ -43,6 +43,6 @@ PointIn p = All-keep point-fields (point-values p)
 abbrev pub point-bytes : Point → List ℕ
 point-bytes p = record-bytes point-form p
 
--- why a point is not written as record number `place` into a buffer of so many bytes
+-- why a point is not written as record number `nth` into a buffer of so many bytes
 abbrev pub point-refusal : ℕ → Point → ℕ → Option Fault
-point-refusal place p room = record-refusal point-form place p room
+point-refusal nth p room = record-refusal point-form nth p room

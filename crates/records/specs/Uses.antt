@@ -29,9 +29,9 @@ use-form = record { size = 5; fields = λ _. use-fields; values = use-values; na
 abbrev pub use-of : List ℕ → NetworkUse
 use-of bytes = record-of use-form bytes
 
--- the fault of the first field of these bytes that breaks its range, where they are record number `place`
+-- the fault of the first field of these bytes that breaks its range, where they are record number `nth`
 abbrev pub use-fault : ℕ → List ℕ → Option Fault
-use-fault place bytes = record-fault use-form place bytes
+use-fault nth bytes = record-fault use-form nth bytes
 
 -- each field keeps its range
 abbrev pub UseIn : NetworkUse → Type 0
@@ -41,6 +41,6 @@ UseIn u = All-keep use-fields (use-values u)
 abbrev pub use-bytes : NetworkUse → List ℕ
 use-bytes u = record-bytes use-form u
 
--- why a use is not written as record number `place` into a buffer of so many bytes
+-- why a use is not written as record number `nth` into a buffer of so many bytes
 abbrev pub use-refusal : ℕ → NetworkUse → ℕ → Option Fault
-use-refusal place u room = record-refusal use-form place u room
+use-refusal nth u room = record-refusal use-form nth u room

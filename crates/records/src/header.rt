@@ -16,6 +16,7 @@ use bits::fault::Fault;
 use bits::field::Field;
 use bits::fields::check;
 use bits::fields::decode;
+use bits::lengths::leading;
 use bits::rows::write_row;
 
 #[derive(Clone, Copy, Debug, PartialEq, Eq)]
@@ -125,9 +126,7 @@ impl Header {
         ensures exact { λ r. ⌜ Cases r (λ p. HeaderIn (p .0) × (now (file .entry) ≡ header-bytes (p .0) ++ now (p .1))) (λ f. header-fault (now (file .entry)) ≡ Some f) ⌝ }
         ensures found { λ r. ⌜ ((h : Header) (rest : List ℕ) → HeaderIn h → now (file .entry) ≡ header-bytes h ++ rest → Cases r (λ p. (p .0 ≡ h) × (now (p .1) ≡ rest)) (λ _. ⊥)) ⌝ }
     {
-        let Some((bytes, rest)) = file.split_first_chunk::<27>() else {
-            return Err(Fault::short());
-        };
+        let (bytes, rest) = leading::<27>(file)?;
         let header = Header::read_bytes(bytes)?;
         Ok((header, rest))
     }

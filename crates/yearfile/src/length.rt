@@ -5,6 +5,7 @@ ghost use Rattle.std.specs.Results.{errPart};
 ghost use Rattle.std.specs.Vec.{made};
 ghost use Rattle.yearfile.specs.File.{announced, length-fault};
 use bits::fault::Fault;
+use bits::lengths::exactly;
 use records::header::Header;
 
 // Whether the rest of the file is as long as the records that the header announces.
@@ -15,11 +16,5 @@ pub fn check_length(header: &Header, rest: &[u8]) -> Result<(), Fault>
     let announced = 15 * header.points as usize
         + 9 * header.elements as usize
         + 5 * header.uses as usize;
-    if rest.len() < announced {
-        return Err(Fault::short());
-    }
-    if rest.len() > announced {
-        return Err(Fault::long());
-    }
-    Ok(())
+    exactly(rest, announced)
 }
