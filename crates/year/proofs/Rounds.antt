@@ -13,7 +13,7 @@ use Rattle.std.proofs.shelf.Elements.{all-from-getD}
 use Rattle.std.proofs.shelf.Lists.{take-append-drop, length-drop, length-take-le, drop-all, drop-drop, take-at, drop-at}
 use Rattle.std.proofs.shelf.Sums.{getD-le-sumBy}
 use Rattle.std.proofs.shelf.Ways.{tells}
-use Rattle.std.specs.Results.{errPart, isOk}
+use Rattle.std.specs.Results.{errPart, Cases}
 use Rattle.std.specs.Vec.{made}
 use Rattle.std.specs.declared.result.Result.{Result}
 use Rattle.std.specs.declared.result.Result.the-variants.{Ok, Err}
@@ -44,6 +44,7 @@ use Rattle.records.proofs.ElementLaws.{element-lawful}
 use Rattle.records.proofs.HeaderLaws.{header-lawful}
 use Rattle.records.proofs.PointLaws.{point-lawful}
 use Rattle.records.proofs.UseLaws.{use-lawful}
+use Rattle.year.proofs.Reading.{counts, ranges, limits}
 use Rattle.year.specs.YearBytes.{bytes-of, Sound}
 use Rattle.year.specs.YearFile.{year-after, year-of, first-fault}
 use Rattle.yearfile.specs.Bytes.{all-bytes}
@@ -332,13 +333,46 @@ module _ (file : List ℕ) (bytes : Bytes file) (fine : None ≡ first-fault fil
   pub read-then-written : bytes-of (year-of file) ≡ file
   read-then-written = rw (uses-back, elements-back, points-back, ← head-is) (take-append-drop 27 file)
 
+  header-kept : HeaderIn hd
+  unfolding header-form
+  header-kept =
+      let n = header-none in
+      let l = long in
+      let t : ltb (length file) 27 ≡ false = grind (arith, tells) in
+      let f : None ≡ record-fault header-form 0 (take 27 file) = rw t at n in
+      read-written header-form header-lawful 0 (take 27 file) (length-take-le 27 file long) (bytes-take 27 file bytes) (sym f) .0
+
+  together-none : None ≡ together-fault (year-of file)
+  together-none = or-none (first-told-fault (told-after hd rest)) _ (or-none (length-fault hd rest) _ (or-none (header-fault file) _ fine .1) .1) .1
+
+  -- and that year is sound
+  pub sound-file : Sound (year-of file)
+  sound-file =
+      let l = limits hd rest header-kept records-none together-none in
+      record {
+        some = omega (arith, counts hd rest .0, ranges hd header-kept .points .0);
+        few = l .0;
+        counted = l .1 .0;
+        figures = l .1 .1 .0;
+        dated = l .1 .1 .1 .0;
+        identified = l .1 .1 .1 .1 .0;
+        rated = l .1 .1 .1 .1 .1 .0;
+        distinct = l .1 .1 .1 .1 .1 .1 .0;
+        named = l .1 .1 .1 .1 .1 .1 .1 .0;
+        rising = l .1 .1 .1 .1 .1 .1 .1 .1 .0;
+        within = l .1 .1 .1 .1 .1 .1 .1 .1 .1 .0;
+        used = l .1 .1 .1 .1 .1 .1 .1 .1 .1 .1 .0;
+        priced = l .1 .1 .1 .1 .1 .1 .1 .1 .1 .1 .1 .0;
+      }
+
 -- what a read that answers so says of the file
-pub one-form : {T : Type 0} (file : List ℕ) → Bytes file → (r : Result T Fault) → errPart r ≡ first-fault file → made r (λ _. bytes-of (year-of file) ≡ file)
-one-form file b (Ok x) e = read-then-written file b e
+pub one-form : {T : Type 0} (file : List ℕ) → Bytes file → (r : Result T Fault) → errPart r ≡ first-fault file → made r (λ _. Sound (year-of file) × (file ≡ bytes-of (year-of file)))
+one-form file b (Ok x) e = (sound-file file b e, sym (read-then-written file b e))
 one-form file b (Err f) e = tt
 
-pub all-found : {T : Type 0} (file : List ℕ) (r : Result T Fault) → errPart r ≡ first-fault file → (d : YearData) → Sound d → file ≡ bytes-of d → isOk r ≡ true
-all-found file (Ok x) e d so b = refl
-all-found file (Err f) e d so b =
+pub all-found : {T : Type 0} (file : List ℕ) (r : Result T Fault) (after before : YearData) → errPart r ≡ first-fault file → Cases r (λ _. after ≡ year-of file) (λ _. after ≡ before)
+    → (d : YearData) → Sound d → file ≡ bytes-of d → Cases r (λ _. after ≡ d) (λ _. ⊥)
+all-found file (Ok x) after before e h d so b = h ∙ (ap year-of b ∙ written-then-read d so .1)
+all-found file (Err f) after before e h d so b =
     let z : _≡_ {A = Option Fault} (Some f) None = e ∙ (ap first-fault b ∙ sym (written-then-read d so .0)) in
-    absurd (grind arith)
+    grind arith

@@ -32,6 +32,9 @@ Rated d = (k : ℕ) → k < length (d .elements)
     → (getD (d .elements) k no-element .cost ≤ 10000000) × (1 ≤ getD (d .elements) k no-element .rating)
     × (getD (d .elements) k no-element .rating ≤ 10000000) × (getD (d .elements) k no-element .peak ≤ 10000000)
 
--- a year without points has nothing else either
+-- a year without points is the empty one, in which everything is zero
 abbrev pub Blank : YearData → Type 0
-Blank d = length (d .points) ≡ 0 → (length (d .elements) ≡ 0) × (length (d .uses) ≡ 0)
+Blank d = length (d .points) ≡ 0
+    → ((length (d .elements) ≡ 0) × (length (d .uses) ≡ 0))
+    × ((d .header .year ≡ 0) × (d .header .«allowed_revenue» ≡ 0) × (d .header .«common_operating_cost» ≡ 0))
+    × ((natAbs (d .header .«locational_residue») ≡ 0) × (natAbs (d .header .«other_residue») ≡ 0) × (d .header .«common_cost» ≡ 0))

@@ -1,7 +1,6 @@
 // A year made, and read from a file.
 ghost use mathlib.Core.Path.{_≡_};
-ghost use mathlib.Core.Bool.{true};
-ghost use Rattle.std.specs.Results.{errPart, isOk, Cases};
+ghost use Rattle.std.specs.Results.{errPart, Cases};
 ghost use Rattle.std.specs.Vec.{made};
 ghost use Rattle.agreement.specs.Data.{YearData, empty-year};
 ghost use Rattle.year.specs.Holds.{contents};
@@ -29,12 +28,13 @@ impl Year {
     }
 
     // Takes a file in, or says what is first wrong with it and stays as it was. What is taken in is just the files of
-    // sound years, each of which has one form.
+    // sound years, each of which has one form. (The last two clauses follow from the first two, so the work stands in
+    // a function of its own.)
     pub fn read(&mut self, file: &[u8]) -> Result<(), Fault>
         ensures fault { λ r. ⌜ errPart r ≡ first-fault (now (file .entry)) ⌝ }
         ensures held { λ r. ⌜ Cases r (λ _. contents (now (self .exit)) ≡ year-of (now (file .entry))) (λ _. contents (now (self .exit)) ≡ contents (now (self .entry))) ⌝ }
-        ensures form { λ r. ⌜ made r (λ _. bytes-of (year-of (now (file .entry))) ≡ now (file .entry)) ⌝ }
-        ensures found { λ r. ⌜ ((d : YearData) → Sound d → now (file .entry) ≡ bytes-of d → isOk r ≡ true) ⌝ }
+        ensures form { λ r. ⌜ made r (λ _. Sound (year-of (now (file .entry))) × (now (file .entry) ≡ bytes-of (year-of (now (file .entry))))) ⌝ }
+        ensures found { λ r. ⌜ ((d : YearData) → Sound d → now (file .entry) ≡ bytes-of d → Cases r (λ _. contents (now (self .exit)) ≡ d) (λ _. ⊥)) ⌝ }
     {
         self.take_in(file)
     }

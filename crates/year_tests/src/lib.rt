@@ -18,103 +18,18 @@ mod tests {
     use std::test::*;
     use year::year::Year;
 
-    const WORKED: [u8; 91] = [
-        0x11,
-        0xfa,
-        0xc1,
-        0x80,
-        0x40,
-        0x04,
-        0x00,
-        0x00,
-        0x7a,
-        0x12,
-        0x00,
-        0x00,
-        0x00,
-        0x61,
-        0xa8,
-        0x00,
-        0x00,
-        0x00,
-        0x00,
-        0x00,
-        0x00,
-        0x00,
-        0x00,
-        0x00,
-        0x00,
-        0x00,
-        0x64,
-        0x00,
-        0x0b,
-        0x00,
-        0x00,
-        0x64,
-        0x00,
-        0x00,
-        0x00,
-        0x00,
-        0x00,
-        0x00,
-        0x00,
-        0x00,
-        0x00,
-        0x00,
-        0x00,
-        0x0c,
-        0x00,
-        0x00,
-        0x00,
-        0x00,
-        0x00,
-        0xc8,
-        0x00,
-        0x03,
-        0xe8,
-        0x00,
-        0x05,
-        0xdc,
-        0x00,
-        0x00,
-        0x0d,
-        0x00,
-        0x00,
-        0x00,
-        0x00,
-        0x00,
-        0x64,
-        0x00,
-        0x01,
-        0xf4,
-        0x00,
-        0x03,
-        0xe8,
-        0x00,
-        0x00,
-        0x01,
-        0xf4,
-        0x00,
-        0x07,
-        0xd0,
-        0x00,
-        0x05,
-        0xdc,
-        0x00,
-        0x04,
-        0x00,
-        0x0f,
-        0xa0,
-        0x00,
-        0x08,
-        0x00,
-        0x07,
-        0xd0,
-    ];
+    const WORKED: &[u8; 91] = b"\
+        \x11\xfa\xc1\x80\x40\x04\x00\x00\x7a\x12\x00\x00\x00\x61\xa8\x00\x00\x00\x00\x00\x00\x00\x00\x00\x00\x00\x64\
+        \x00\x0b\x00\x00\x64\x00\x00\x00\x00\x00\x00\x00\x00\x00\x00\
+        \x00\x0c\x00\x00\x00\x00\x00\xc8\x00\x03\xe8\x00\x05\xdc\x00\
+        \x00\x0d\x00\x00\x00\x00\x00\x64\x00\x01\xf4\x00\x03\xe8\x00\
+        \x00\x01\xf4\x00\x07\xd0\x00\x05\xdc\
+        \x00\x04\x00\x0f\xa0\
+        \x00\x08\x00\x07\xd0";
 
     // The worked file with some bytes changed.
     fn changed(changes: &[(usize, u8)]) -> [u8; 91] {
-        let mut file = WORKED;
+        let mut file = *WORKED;
         for change in changes {
             let (at, byte) = *change;
             if at < 91 {
@@ -127,7 +42,7 @@ mod tests {
     // A year that holds the worked file.
     fn worked(heap: Global) -> Result<Year, Fail> {
         let mut year = Year::new(heap)?;
-        check_eq(year.read(&WORKED), Ok(()))?;
+        check_eq(year.read(WORKED), Ok(()))?;
         Ok(year)
     }
 
@@ -136,31 +51,37 @@ mod tests {
         check_eq(year.read(&changed(changes)), Err(fault))?;
         let mut back = [0u8; 91];
         check_eq(year.write(&mut back), Ok(91))?;
-        check(back == WORKED)
+        check(back == *WORKED)
     }
 
     // A field out of its range, in the header.
     #[test]
     fn header_fields(rt: LibcRuntime) -> Result<(), Fail> {
         let mut year = worked(rt.alloc())?;
+        // a bill's kind
         refuses(&mut year, &[(0, 33)], Fault::outside(0, 1))?;
+        // the year 1999, and 3000
         refuses(&mut year, &[(1, 243)], Fault::outside(0, 2))?;
         refuses(
             &mut year,
             &[(0, 18), (1, 238), (2, 1)],
             Fault::outside(0, 2),
         )?;
+        // the spare bit
         refuses(&mut year, &[(5, 5)], Fault::outside(0, 6))?;
+        // the allowed revenue, one cent over its limit
         refuses(
             &mut year,
             &[(6, 186), (7, 67), (8, 183), (9, 64), (10, 8)],
             Fault::outside(0, 7),
         )?;
+        // a common operating cost one cent over the allowed revenue
         refuses(
             &mut year,
             &[(12, 3), (13, 208), (14, 144), (15, 64)],
             Fault::outside(0, 8),
         )?;
+        // each residue, one cent out of its range at either end
         refuses(
             &mut year,
             &[(15, 45), (16, 95), (17, 160), (18, 223), (19, 248)],
@@ -187,8 +108,10 @@ mod tests {
     #[test]
     fn record_fields(rt: LibcRuntime) -> Result<(), Fail> {
         let mut year = worked(rt.alloc())?;
+        // an identifier of zero, and spare bits
         refuses(&mut year, &[(43, 0)], Fault::outside(2, 1))?;
         refuses(&mut year, &[(41, 1)], Fault::outside(1, 6))?;
+        // a cost one over its limit; a rating of zero, and one over its limit; a peak one over its limit
         refuses(
             &mut year,
             &[(72, 152), (73, 150), (74, 129)],
@@ -205,6 +128,7 @@ mod tests {
             &[(78, 152), (79, 150), (80, 129)],
             Fault::outside(4, 3),
         )?;
+        // spare bits of a use, alone and with an identifier repeated
         refuses(&mut year, &[(90, 209)], Fault::outside(6, 4))?;
         refuses(&mut year, &[(58, 11), (90, 209)], Fault::outside(6, 4))
     }
@@ -237,11 +161,13 @@ mod tests {
             &[(24, 152), (25, 150), (26, 129), (81, 1)],
             Fault::year(Refusal::UseMisplaced, 5),
         )?;
+        // the costs, by a point's cost and by the common one; the uses of an element; all demands; all energy
         refuses(&mut year, &[(29, 152), (30, 150), (31, 129)], over)?;
         refuses(&mut year, &[(24, 152), (25, 146), (26, 253)], over)?;
         refuses(&mut year, &[(82, 6), (83, 98), (84, 82), (85, 52)], over)?;
         refuses(&mut year, &[(35, 152), (36, 144), (37, 165)], over)?;
         refuses(&mut year, &[(38, 190), (39, 178), (40, 92), (41, 64)], over)?;
+        // no energy; no cost; no cost and too much energy
         refuses(&mut year, &[(54, 0), (55, 0), (69, 0), (70, 0)], zero)?;
         refuses(
             &mut year,
@@ -296,15 +222,17 @@ mod tests {
         )
     }
 
-    // Every shorter file, and one byte more; a bad header field comes before the length of the whole file.
+    // Every shorter file, and one byte more. A bad header field comes after the length of the header, and before that of the
+    // whole file.
     #[test]
     fn lengths(rt: LibcRuntime) -> Result<(), Fail> {
         let mut year = worked(rt.alloc())?;
         for length in 0..91usize {
             check_eq(year.read(&WORKED[0..length]), Err(Fault::short()))?;
         }
+        check_eq(year.read(&changed(&[(0, 33)])[0..26]), Err(Fault::short()))?;
         let mut longer = [0u8; 92];
-        longer[0..91].copy_from_slice(&WORKED);
+        longer[0..91].copy_from_slice(WORKED);
         check_eq(year.read(&longer), Err(Fault::long()))?;
         longer[0] = 33;
         check_eq(year.read(&longer), Err(Fault::outside(0, 1)))?;

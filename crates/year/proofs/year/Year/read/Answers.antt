@@ -8,5 +8,5 @@ returns c =
       fault = e;
       held = c .take-in .ensures .held;
       form = one-form (c .args .file .now) (λ i. c .typed .file i .fits) (c .take-in .result) e;
-      found = all-found (c .args .file .now) (c .take-in .result) e;
+      found = all-found (c .args .file .now) (c .take-in .result) _ _ e (c .take-in .ensures .held);
     }
