@@ -1,0 +1,11 @@
+pub mod Adding
+pub mod Exchange
+pub mod Filling
+pub mod Leaving
+pub mod OfYear
+pub mod Parting
+pub mod Placing
+pub mod Reducing
+pub mod Segments
+pub mod Totalling
+pub mod Walking

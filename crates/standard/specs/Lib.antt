@@ -1,0 +1,5 @@
+pub mod Allotted
+pub mod Lent
+pub mod Order
+pub mod Reduced
+pub mod Worked
