@@ -227,8 +227,9 @@ mod tests {
     #[test]
     fn lengths(rt: LibcRuntime) -> Result<(), Fail> {
         let mut year = worked(rt.alloc())?;
+        let file = *WORKED;
         for length in 0..91usize {
-            check_eq(year.read(&WORKED[0..length]), Err(Fault::short()))?;
+            check_eq(year.read(&file[0..length]), Err(Fault::short()))?;
         }
         check_eq(year.read(&changed(&[(0, 33)])[0..26]), Err(Fault::short()))?;
         let mut longer = [0u8; 92];
