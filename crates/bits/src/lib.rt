@@ -1,4 +1,6 @@
 // What the records of a year file and of a bill are made of: refusals and faults, bits, and fields with a range.
+#![tactic(auto)]
+
 pub mod fault;
 pub mod field;
 pub mod fields;

@@ -1,4 +1,6 @@
 // Tests of what every method answers, of the discount, and of the whole list of amounts.
+#![tactic(auto)]
+
 #[cfg(test)]
 mod quarters;
 

@@ -1,5 +1,7 @@
 // Figures for the arithmetic of money that were worked out elsewhere: published pricing examples of two network owners,
 // with dollars turned into cents and asset values into thousands of dollars, and both limits of each range.
+#![tactic(auto)]
+
 #[cfg(test)]
 mod tests {
     use money::calendar::days;

@@ -1,5 +1,7 @@
 // Reads a year file from standard input, opens it on an empty book under the standard allocation method, and prints the
 // page in decimal, or `refused` and the number of the refusal.
+#![tactic(auto)]
+
 use bits::refusal::Refusal;
 use pricing::page::{LocationalPrices, Page};
 use standard::allocation::Allocation;

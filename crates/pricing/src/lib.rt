@@ -1,5 +1,7 @@
 // The page of a year: from its figures, under an allocation method, the locational prices and the five yearly charges of
 // each connection point.
+#![tactic(auto)]
+
 mod charged;
 mod columns;
 mod located;

@@ -1,5 +1,7 @@
 // The records of a worked year file and of its bills to the byte, the faults of damaged ones, and the limits of each
 // field.
+#![tactic(auto)]
+
 #[cfg(test)]
 mod bytes;
 

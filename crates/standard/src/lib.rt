@@ -1,5 +1,7 @@
 // The standard and the modified method: a pool is parted by the costs of a year's elements, and each part is shared
 // over the uses of its element.
+#![tactic(auto)]
+
 pub mod allocation;
 mod elements;
 pub mod filled;

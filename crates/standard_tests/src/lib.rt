@@ -1,4 +1,6 @@
 // Tests over years: what the standard method, the modified one and a discount allot.
+#![tactic(auto)]
+
 #[cfg(test)]
 mod tests {
     use bits::refusal::Refusal;

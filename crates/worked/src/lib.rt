@@ -1,4 +1,6 @@
 // Worked cases, as one theorem: its clauses cite the definitions that the contracts of the code cite.
+#![tactic(auto)]
+
 ghost use Rattle.std.specs.Prelude.{◌≡◌, [], ◌∷◌, map, pos, negsuc};
 ghost use Rattle.locational.specs.Prices.{lower_bound, upper_bound, point_price};
 ghost use Rattle.money.specs.Instalments.{instalment_of};

@@ -1,4 +1,6 @@
 // The checked year: one that keeps every limit, or the empty one.
+#![tactic(auto)]
+
 mod fills;
 mod lists;
 pub mod questions;

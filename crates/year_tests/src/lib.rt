@@ -1,5 +1,7 @@
 // Year files read, refused and written: the worked year with bytes changed, every shorter file, both sides of each limit,
 // and the largest year.
+#![tactic(auto)]
+
 #[cfg(test)]
 mod tests {
     use bits::fault::Fault;
