@@ -1,5 +1,5 @@
 -- The lengths of months in a regulatory year, from July of one calendar year to June of the next.
-use Rattle.std.specs.Prelude.{ℕ, ◌+◌, ◌-◌, ◌%◌, Bool, cond, not, ◌&&◌, ◌||◌, List, [], ◌∷◌, ◌==◌, slice_index}
+use Rattle.std.specs.Prelude.{ℕ, ◌+◌, ◌-◌, ◌%◌, Bool, cond, not, ◌&&◌, ◌||◌, [], ◌∷◌, ◌==◌, slice_index}
 
 -- whether a calendar year is an n-th year: a fourth, a hundredth, a four hundredth
 abbrev pub every : ℕ → ℕ → Bool

@@ -6,8 +6,8 @@ use Rattle.bits.proofs.fields.check.Goals as goal
 pub loop-i-init : goal.loop-i-init
 loop-i-init c = refl
 
-pub keeps-requires-in-loop-i : goal.keeps-requires-in-loop-i
-keeps-requires-in-loop-i c =
+pub keeps-requires : goal.keeps-requires
+keeps-requires c =
     let w = narrow_at c.args.fields.now c.loop-i.i _ c.requires.narrow c.loop-i-test.true in
     record { narrow = w.1; sign = w.0 }
 

@@ -2,5 +2,5 @@ use Rattle.std.proofs.Common.{mul-le-mul_left, rules}
 use Rattle.money.proofs.Shares.{div_mono}
 use Rattle.money.proofs.sharing.share.Goals as goal
 
-pub overflow-sub-result : goal.overflow-sub-result
-overflow-sub-result c = search (rules, div_mono, mul-le-mul_left)
+pub overflow_sub-result : goal.overflow_sub-result
+overflow_sub-result c = search (rules, div_mono, mul-le-mul_left)

@@ -11,8 +11,8 @@ loop-left-preserved c =
 pub loop-left-init : goal.loop-left-init
 loop-left-init c = taken_none (ahead c.args.self.now) c.args.width c.requires.room
 
-pub overflow-add-value : goal.overflow-add-value
-overflow-add-value c =
+pub overflow_add-value : goal.overflow_add-value
+overflow_add-value c =
     let l : c.min-count.result ≤ c.loop-left.left = omega arith in
     record { fits = taken_fits (ahead c.args.self.now) c.args.width c.loop-left.value c.loop-left.left (ahead c.loop-left.self) c.min-count.result c.piece.result c.loop-left.invariant c.requires.width l c.piece.ensures.small }
 

@@ -3,11 +3,11 @@ use Rattle.bits.specs.Bits.{bits, bits_of}
 use Rattle.bits.proofs.Pieces.{part_byte, part_lt, part_more, byte_more}
 use Rattle.bits.proofs.writer.Writer.piece.Goals as goal
 
-pub overflow-cast-self-then-self-eq8 : goal.overflow-cast-self-then-self-eq8
-overflow-cast-self-then-self-eq8 g c = record { fits = part_byte c.args.self.now.used c.args.count c.args.self.now.part c.args.value c.args.self.now.small c.requires.small c.if-self-eq8.true }
+pub overflow_cast-self-then-self-eq8 : goal.overflow_cast-self-then-self-eq8
+overflow_cast-self-then-self-eq8 g c = record { fits = part_byte c.args.self.now.used c.args.count c.args.self.now.part c.args.value c.args.self.now.small c.requires.small c.if-self-eq8.true }
 
-pub invariant-of-self-else-self-eq8 : goal.invariant-of-self-else-self-eq8
-invariant-of-self-else-self-eq8 g c = search (rules, part_lt)
+pub invariant_of-self-else-self-eq8 : goal.invariant_of-self-else-self-eq8
+invariant_of-self-else-self-eq8 g c = search (rules, part_lt)
 
 pub returns-then-self-eq8 : goal.returns-then-self-eq8
 returns-then-self-eq8 g c =
