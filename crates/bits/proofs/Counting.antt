@@ -1,5 +1,5 @@
 -- What the faults of a length say. Assumes nothing.
-use Rattle.std.proofs.Common.{◌≡◌, ℕ, ◌<◌, ◌≤◌, Some, None, Option, arith}
+use Rattle.std.proofs.Common.{◌≡◌, ℕ, ◌<◌, ◌≤◌, Some, None, arith}
 use Rattle.std.proofs.lemmas.Bool.Decides.{nat_tests}
 use Rattle.bits.specs.Faults.{short_fault, short_of, wrong_length}
 use Rattle.bits.specs.declared.fault.Fault.{Fault}

@@ -1,6 +1,6 @@
 -- Numbers, bits and bytes stand for each other. Assumes nothing.
-use Rattle.std.proofs.Common.{◌≡◌, ℕ, zero, suc, ◌+◌, ◌-◌, ◌*◌, ◌/◌, ◌%◌, ◌^◌, ◌<◌, ◌≤◌, List, [], ◌∷◌, ◌++◌, length, get_or, take, drop, sym, refl, ap, ◌∙◌, subst, mod-eq_of_lt, mul_assoc, add-mul, add_comm, suc-add, pow-suc, zero-add, one-add, arith, pow_mono}
-use Rattle.std.proofs.lemmas.List.{length-append, append_assoc, take_at, drop_at, take-append-drop, length-take, length-take-le, length-drop, nil_from_length}
+use Rattle.std.proofs.Common.{◌≡◌, ℕ, zero, suc, ◌+◌, ◌*◌, ◌/◌, ◌%◌, ◌^◌, ◌<◌, ◌≤◌, List, [], ◌∷◌, ◌++◌, length, get_or, take, drop, sym, refl, ap, ◌∙◌, subst, mod-eq_of_lt, mul_assoc, add-mul, add_comm, suc-add, pow-suc, zero-add, one-add, arith, pow_mono}
+use Rattle.std.proofs.lemmas.List.{length-append, take_at, drop_at, take-append-drop, length-take, length-take-le, length-drop, nil_from_length}
 use Rattle.std.proofs.lemmas.Nat.{pow_pos, pow-add, shr-shr, mod-pow-add, field_of, mod_low, shr_high, mul-le}
 use Rattle.bits.specs.Bits.{bits, bits_of, number, bytes_of}
 

@@ -1,5 +1,5 @@
 -- The round trips of any kind of record that obeys a few laws. Assumes nothing.
-use Rattle.std.proofs.Common.{◌≡◌, ℕ, ◌*◌, List, [], ◌∷◌, length, IfOk, Some, None, Ok, Err, Option, Result, sym, refl, ap, ◌∙◌, subst, arith}
+use Rattle.std.proofs.Common.{◌≡◌, ℕ, ◌*◌, List, [], ◌∷◌, length, IfOk, None, Ok, Err, Option, Result, sym, refl, ap, ◌∙◌, subst, arith}
 use Rattle.std.specs.Result.{result_err}
 use Rattle.bits.specs.Bits.{bits, bytes_of}
 use Rattle.bits.specs.Forms.{Form, values_of, record_of, record_fault, record_bytes, record_refusal, InRange}

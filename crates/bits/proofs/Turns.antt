@@ -1,10 +1,9 @@
 -- Rows of fields, one field at a time. Assumes nothing.
-use Rattle.std.proofs.Common.{◌≡◌, ℕ, zero, suc, ◌+◌, ◌-◌, ◌*◌, ◌/◌, ◌%◌, ◌^◌, ◌<◌, ◌≤◌, Bool, true, false, cond, List, [], ◌∷◌, ◌++◌, length, get_or, take, drop, set, replicate, Some, None, Option, sym, refl, ap, ◌∙◌, subst, add-one, arith}
+use Rattle.std.proofs.Common.{◌≡◌, ℕ, zero, suc, ◌+◌, ◌<◌, ◌≤◌, Bool, true, false, cond, List, [], ◌∷◌, ◌++◌, length, get_or, take, drop, set, replicate, Some, None, sym, refl, ap, ◌∙◌, add-one, arith}
 use Rattle.std.proofs.lemmas.List.{length-append, append_assoc, append-nil, drop_more, drop_all, take_all, take_more_set, length-set, length-drop, length-replicate}
-use Rattle.bits.specs.Bits.{bits, bits_of, number, bytes_of}
+use Rattle.bits.specs.Bits.{bits_of, number}
 use Rattle.bits.specs.Faults.{field_fault}
 use Rattle.bits.specs.Layout.{plain, meaning, keeps, values_in, packed, span, first_bad, Narrow}
-use Rattle.bits.specs.declared.fault.Fault.{Fault}
 use Rattle.bits.specs.declared.field.Field.{Field}
 use Rattle.bits.proofs.Digits.{length-bits_of}
 

@@ -31,8 +31,8 @@ impl<M: Method> Discount<M> {
 
     // Agrees the figure by which the amount at a place is lowered, in the place of an earlier one.
     pub fn agree(&mut self, place: usize, figure: u64) -> Result<(), Refusal>
-        ensures refused { result_err result ≡ agree_refusal (points self.old.method) place figure }
-        ensures figures { self.new.figures ≡ agreed (points self.old.method) place figure self.old.figures }
+        ensures refused { result_err result ≡ agree_refusal (M.points self.old.method) place figure }
+        ensures figures { self.new.figures ≡ agreed (M.points self.old.method) place figure self.old.figures }
         ensures method { self.new.method ≡ self.old.method }
     {
         if figure > MAX_FIGURE || place >= self.method.points() {

@@ -1,6 +1,5 @@
 -- The record of an element obeys the laws of records. Assumes nothing.
 use Rattle.std.proofs.Common.{◌≡◌, length, refl, lit≤}
-use Rattle.bits.specs.Layout.{values_in, packed}
 use Rattle.bits.proofs.Trips.{Lawful, length_record}
 use Rattle.records.specs.Elements.{element_form, element_bytes}
 use Rattle.records.specs.declared.element.Element.{Element}

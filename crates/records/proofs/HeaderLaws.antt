@@ -1,11 +1,10 @@
 -- The header obeys the laws of records. Assumes nothing.
-use Rattle.std.proofs.Common.{◌≡◌, ℕ, ◌^◌, ◌<◌, ◌≤◌, ltb, List, ◌++◌, length, get_or, take, drop, ℤ, nat_abs, Some, None, Ok, Err, Option, Result, sym, refl, ap, ◌∙◌, subst, arith, lit<, lit≤}
+use Rattle.std.proofs.Common.{◌≡◌, ℕ, ◌^◌, ◌<◌, ◌≤◌, ltb, List, ◌++◌, length, get_or, take, drop, nat_abs, Some, None, Ok, Err, Result, sym, refl, ap, ◌∙◌, subst, arith, lit<, lit≤}
 use Rattle.std.proofs.lemmas.List.{length-append, take_at, drop_at, take_all, take-append-drop}
 use Rattle.std.proofs.lemmas.Bool.{cond-true, cond-false, lt-ltb, le-ltb}
 use Rattle.bits.specs.Faults.{short_fault}
-use Rattle.bits.specs.Forms.{record_of, record_fault, record_bytes}
+use Rattle.bits.specs.Forms.{record_of, record_fault}
 use Rattle.bits.specs.Layout.{values_in, AllKeep}
-use Rattle.bits.specs.Signs.{twos, untwos}
 use Rattle.bits.specs.declared.fault.Fault.{Fault}
 use Rattle.bits.specs.declared.field.Field.{Field}
 use Rattle.bits.proofs.Laws.{keep_at}

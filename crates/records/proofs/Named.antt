@@ -1,5 +1,5 @@
 -- A row of values, named one by one. Assumes nothing.
-use Rattle.std.proofs.Common.{◌≡◌, ℕ, zero, suc, List, [], ◌∷◌, length, get_or, sym, refl, ap, ◌∙◌, arith}
+use Rattle.std.proofs.Common.{◌≡◌, ℕ, zero, suc, List, [], ◌∷◌, length, get_or, refl, ap, ◌∙◌, arith}
 
 -- the n values from place i on
 abbrev pub names : ℕ → ℕ → List ℕ → List ℕ

@@ -1,6 +1,6 @@
 -- The record of a point obeys the laws of records. Assumes nothing.
 use Rattle.std.proofs.Common.{◌≡◌, ℕ, List, length, get_or, refl, arith, lit<, lit≤}
-use Rattle.bits.specs.Layout.{values_in, packed, AllKeep}
+use Rattle.bits.specs.Layout.{AllKeep}
 use Rattle.bits.proofs.Laws.{keep_at}
 use Rattle.bits.proofs.Trips.{Lawful, length_record}
 use Rattle.records.specs.Points.{point_fields, point_values, point_named, point_form, point_bytes}

@@ -1,6 +1,6 @@
 -- The record of a use obeys the laws of records. Assumes nothing.
 use Rattle.std.proofs.Common.{◌≡◌, ℕ, List, length, get_or, refl, arith, lit<, lit≤}
-use Rattle.bits.specs.Layout.{values_in, packed, AllKeep}
+use Rattle.bits.specs.Layout.{AllKeep}
 use Rattle.bits.proofs.Laws.{keep_at}
 use Rattle.bits.proofs.Trips.{Lawful, length_record}
 use Rattle.records.specs.Uses.{use_fields, use_values, use_named, use_form, use_bytes}

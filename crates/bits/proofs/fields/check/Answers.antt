@@ -1,4 +1,4 @@
-use Rattle.std.proofs.Common.{◌≡◌, ◌+◌, ◌<◌, length, Some, None, sym, refl, ap, ◌∙◌, arith, rules}
+use Rattle.std.proofs.Common.{◌+◌, Some, sym, refl, ap, ◌∙◌, arith}
 use Rattle.bits.proofs.Turns.{narrow_at, bad_more, bad_here, bad_none}
 use Rattle.bits.proofs.Laws.{all_kept}
 use Rattle.bits.proofs.fields.check.Goals as goal

@@ -1,4 +1,4 @@
-use Rattle.std.proofs.Common.{◌≡◌, ℕ, ◌≤◌, List, length, replicate, sym, refl, ap, ◌∙◌, subst, arith, rules}
+use Rattle.std.proofs.Common.{ℕ, List, replicate, sym, ap, ◌∙◌, subst, arith}
 use Rattle.bits.specs.Ahead.{ahead}
 use Rattle.bits.specs.Bits.{bits}
 use Rattle.bits.specs.Layout.{meaning}

@@ -1,4 +1,4 @@
-use Rattle.std.proofs.Common.{◌≡◌, ℕ, ◌+◌, ◌*◌, ◌≤◌, List, [], length, sym, refl, ap, ◌∙◌, subst, arith, rules}
+use Rattle.std.proofs.Common.{ℕ, ◌*◌, List, sym, refl, ap, ◌∙◌, subst, arith, rules}
 use Rattle.bits.specs.Bits.{bytes_of}
 use Rattle.bits.specs.Written.{written}
 use Rattle.bits.proofs.Turns.{Wrote, blank, narrow_at, wrote_more, wrote_all, read_width}

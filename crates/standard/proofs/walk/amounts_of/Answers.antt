@@ -74,7 +74,7 @@ loop-place-preserved g c =
     part_is f es pool i b c.total-cost-total.result c.part-after-part.result here so.cost c.total-cost-total.ensures c.part-after-part.ensures in
     let inside : i < length parts = omega (arith, parts-length f es pool) in (
       walked_more es us i b rest so count c.own-uses.ensures c.split-at.result.1.now here c.split-at.ensures.back,
-      c.type-inv.amounts,
+      c.type_inv.amounts,
       λ p h. omega (arith, c.add-shares.ensures p h, amount_more us p parts i (get_or c.loop-place.amounts p 0) inside front whose (of_parts us p 0 parts) (c.loop-place.invariant.2 p h) c.part-after-part.result (of_part c.part-after-part.result p front) part refl),
     )
 

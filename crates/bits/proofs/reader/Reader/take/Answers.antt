@@ -1,4 +1,4 @@
-use Rattle.std.proofs.Common.{◌≤◌, min, arith, rules}
+use Rattle.std.proofs.Common.{◌≤◌, arith}
 use Rattle.bits.specs.Ahead.{ahead}
 use Rattle.bits.proofs.Pieces.{taken_none, taken_more, taken_fits, taken_all}
 use Rattle.bits.proofs.reader.Reader.take.Goals as goal

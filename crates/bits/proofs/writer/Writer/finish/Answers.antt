@@ -1,4 +1,4 @@
-use Rattle.std.proofs.Common.{get_or, arith, w8, Fits, rules}
+use Rattle.std.proofs.Common.{get_or, w8, Fits, rules}
 use Rattle.bits.proofs.Pieces.{all_written}
 use Rattle.bits.proofs.writer.Writer.finish.Goals as goal
 

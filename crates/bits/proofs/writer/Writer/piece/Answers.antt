@@ -1,5 +1,5 @@
 use Rattle.std.proofs.Common.{take, arith, rules}
-use Rattle.bits.specs.Bits.{bits, bits_of}
+use Rattle.bits.specs.Bits.{bits}
 use Rattle.bits.proofs.Pieces.{part_byte, part_lt, part_more, byte_more}
 use Rattle.bits.proofs.writer.Writer.piece.Goals as goal
 

@@ -1,4 +1,4 @@
-use Rattle.std.proofs.Common.{◌≡◌, ◌≤◌, min, refl, arith, rules}
+use Rattle.std.proofs.Common.{◌≤◌, refl, arith, rules}
 use Rattle.bits.specs.Written.{written}
 use Rattle.bits.proofs.Pieces.{put_more, put_all, put_room, piece_lt}
 use Rattle.bits.proofs.writer.Writer.put.Goals as goal

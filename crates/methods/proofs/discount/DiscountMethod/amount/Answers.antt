@@ -11,6 +11,6 @@ returns g c =
     let place = c.args.place in
     let xs = g.M.Method.amounts m c.args.pool in
     let count = g.M.Method.points m in
-    let told = asked_ok count c.args.pool place xs c.in-ok-amount.amount c.in-ok-amount.ensures in
+    let told = asked_ok count c.args.pool place xs c.in_ok-amount.amount c.in_ok-amount.ensures in
     ap Ok (c.lower.ensures ∙ ap (λ n. n - get_or figures place 0) told.2 ∙ sym (lowered_at xs figures place))
     ∙ sym (asked-within count c.args.pool place (lowered xs figures) told.0 told.1)

@@ -12,7 +12,7 @@ returns g c =
     let xs = g.M.Method.amounts m pool in
     let figures = c.args.self.now.figures in
     let met = g.met.M.Method in
-    let told = all_ok pool xs c.in-ok-amounts.amounts c.in-ok-amounts.ensures in
+    let told = all_ok pool xs c.in_ok-amounts.amounts c.in_ok-amounts.ensures in
     let each : (k : ℕ) → k < 64 → get_or c.loop-place.amounts k 0 ≡ get_or (padded xs) k 0 - get_or figures k 0 =
     λ k h. omega (arith, c.loop-place.invariant.1 k (omega arith), ap (λ ys. get_or ys k 0) told.1) in
     ap Ok (lowered_all xs figures c.loop-place.amounts (omega (arith, met.allotted m pool, met.few m)) c.loop-place.invariant.0 each)

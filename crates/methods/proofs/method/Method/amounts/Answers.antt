@@ -9,8 +9,8 @@ loop-place-preserved g c =
     let pool = c.args.pool in
     let place = c.loop-place.place in
     let xs = g.Self.Method.amounts m pool in
-    let a = c.in-ok-amounts.field-0 in
-    let told = asked_ok (g.Self.Method.points m) pool place xs a c.in-ok-amounts.ensures in
+    let a = c.in_ok-amounts.field-0 in
+    let told = asked_ok (g.Self.Method.points m) pool place xs a c.in_ok-amounts.ensures in
     let met = g.met.Self.Method in (
       ap (λ ys. set ys place a) c.loop-place.invariant.0
           ∙ front_more place xs a (omega (arith, told.1, met.allotted m pool)) (omega (arith, told.1, met.few m)) told.2,

@@ -1,4 +1,4 @@
-use Rattle.std.proofs.Common.{◌≡◌, ℕ, List, length, ap, ◌∙◌}
+use Rattle.std.proofs.Common.{ℕ, List, length, ap, ◌∙◌}
 use Rattle.std.proofs.lemmas.Result.{IfOk-weaker}
 use Rattle.bits.specs.Laid.{laid}
 use Rattle.bits.proofs.Trips.{write_answers, write_stands}
@@ -11,10 +11,10 @@ unfolding element_form
 returns c =
     let w = write_answers element_form element_lawful c.args.record (length c.args.buffer.now) c.args.self.now c.values.result c.fields.result c.values.ensures c.fields.ensures in
     record {
-      fault = c.write-row.ensures.fault ∙ w.0;
-      count = c.write-row.ensures.count;
-      after = c.write-row.ensures.after ∙ ap (λ (xs : List ℕ). laid c.write-row.result xs c.args.buffer.now) w.1;
-      back = IfOk-weaker c.write-row.result _ _
+      fault = c.write_row.ensures.fault ∙ w.0;
+      count = c.write_row.ensures.count;
+      after = c.write_row.ensures.after ∙ ap (λ (xs : List ℕ). laid c.write_row.result xs c.args.buffer.now) w.1;
+      back = IfOk-weaker c.write_row.result _ _
           (λ _ k. let s = write_stands element_form element_lawful c.args.record c.args.self.now c.values.result c.fields.result c.values.ensures c.fields.ensures tt k in (s.0.0, s.1.0, s.1.1))
-          c.write-row.ensures.kept;
+          c.write_row.ensures.kept;
     }

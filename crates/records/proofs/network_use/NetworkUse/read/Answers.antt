@@ -1,4 +1,4 @@
-use Rattle.std.proofs.Common.{◌≡◌, List, get_or, Ok, Err, sym, ap, ◌∙◌, w8, Fits, rules}
+use Rattle.std.proofs.Common.{List, get_or, Ok, Err, sym, ap, ◌∙◌, w8, Fits, rules}
 use Rattle.std.proofs.lemmas.Result.{err_from_is_err_and}
 use Rattle.bits.specs.Bits.{bits}
 use Rattle.bits.specs.Layout.{values_in, first_bad}
@@ -8,26 +8,26 @@ use Rattle.records.specs.Uses.{use_named, use_form}
 use Rattle.records.proofs.UseLaws.{use_lawful}
 use Rattle.records.proofs.network_use.NetworkUse.read.Goals as goal
 
-pub returns-in-err-values : goal.returns-in-err-values
+pub returns-in_err-values : goal.returns-in_err-values
 unfolding use_form
-returns-in-err-values c =
-    let p = err_from_is_err_and c.from-residual.result c.from-residual.ensures.1 in
+returns-in_err-values c =
+    let p = err_from_is_err_and c.from_residual.result c.from_residual.ensures.1 in
     let v = ap (λ (gs : List Field). values_in gs (bits c.args.bytes.now)) c.fields.ensures in
-    let e = read_fails use_form c.args.record c.args.bytes.now (values_in c.fields.result (bits c.args.bytes.now)) c.fields.result _ v c.fields.ensures c.in-err-values.ensures.fault in
+    let e = read_fails use_form c.args.record c.args.bytes.now (values_in c.fields.result (bits c.args.bytes.now)) c.fields.result _ v c.fields.ensures c.in_err-values.ensures.fault in
     rw (p.1, p.2)
     (record { fault = e; value = tt; exact = sym e; found = λ x h b. read_finds use_form use_lawful c.args.record c.args.bytes.now (Err _) e tt x (h, tt) b })
 
 pub returns : goal.returns
 unfolding use_form
 returns c =
-    let v = c.in-ok-values.ensures.value ∙ ap (λ (gs : List Field). values_in gs (bits c.args.bytes.now)) c.fields.ensures in
-    let f = c.in-ok-values.ensures.fault ∙ ap (first_bad c.args.record 1 c.fields.result) (sym c.in-ok-values.ensures.value) in
+    let v = c.in_ok-values.ensures.value ∙ ap (λ (gs : List Field). values_in gs (bits c.args.bytes.now)) c.fields.ensures in
+    let f = c.in_ok-values.ensures.fault ∙ ap (first_bad c.args.record 1 c.fields.result) (sym c.in_ok-values.ensures.value) in
     let m =
-    read_succeeds use_form use_lawful c.args.record c.args.bytes.now c.in-ok-values.values c.fields.result (search rules)
+    read_succeeds use_form use_lawful c.args.record c.args.bytes.now c.in_ok-values.values c.fields.result (search rules)
     (λ i. let b : Fits w8 (get_or c.args.bytes.now i 0) = search rules in b.fits) v c.fields.ensures f in
     record {
       fault = m.0;
       value = m.1;
       exact = (m.2.0.0, m.2.1);
-      found = λ x h b. read_finds use_form use_lawful c.args.record c.args.bytes.now (Ok (use_named c.in-ok-values.values)) m.0 m.1 x (h, tt) b;
+      found = λ x h b. read_finds use_form use_lawful c.args.record c.args.bytes.now (Ok (use_named c.in_ok-values.values)) m.0 m.1 x (h, tt) b;
     }

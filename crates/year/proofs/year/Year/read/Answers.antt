@@ -7,6 +7,6 @@ returns c =
     record {
       fault = e;
       held = c.take-in.ensures.held;
-      form = one_form c.args.file.now (λ i. (c.type-inv.file i).fits) c.take-in.result e;
+      form = one_form c.args.file.now (λ i. (c.type_inv.file i).fits) c.take-in.result e;
       found = all_found c.args.file.now c.take-in.result _ _ e c.take-in.ensures.held;
     }
