@@ -1,6 +1,6 @@
 -- What the records of a file say, and what they keep where none has a fault. Assumes nothing.
 use Rattle.std.proofs.Common.{◌≡◌, ℕ, zero, suc, ◌+◌, ◌*◌, ◌<◌, ◌≤◌, List, [], ◌∷◌, ◌++◌, map, length, get_or, drop, nat_abs, Some, None, Option, sym, refl, ap, ◌∙◌, subst, append_assoc, append-nil, arith}
-use Rattle.std.specs.List.{AllByRecursion as All}
+use Rattle.std.specs.List.{AllByRecursion}
 use Rattle.std.proofs.ByRecursion.{All-get_or}
 use Rattle.std.proofs.lemmas.List.{length-map}
 use Rattle.agreement.specs.Agreement.{together_fault}
@@ -117,7 +117,7 @@ element_kept n bs h =
     (k.0.1.1, k.1.0.1.0, k.1.0.1.1, k.1.1.0.1.1)
 
 -- every record that came without a fault keeps its ranges
-all_keep : (ts : List Told) → None ≡ first_told_fault ts → All IdentifierIn (all_in point_in ts) × All RatingIn (all_in element_in ts)
+all_keep : (ts : List Told) → None ≡ first_told_fault ts → AllByRecursion IdentifierIn (all_in point_in ts) × AllByRecursion RatingIn (all_in element_in ts)
 unfolding first_told_fault all_in
 all_keep [] h = (tt, tt)
 all_keep (a_point bs n ∷ ts) h =
@@ -149,7 +149,7 @@ module _ (h : Header) (rest : List ℕ) (in_range : HeaderIn h) where
       let k = kept (year_after h rest) agree in
       let told : None ≡ first_told_fault (told_after h rest) = fine in
       let a = all_keep (told_after h rest) told in
-      let P : YearData → Type 0 = λ d. All IdentifierIn d.points × All RatingIn d.elements in
+      let P : YearData → Type 0 = λ d. AllByRecursion IdentifierIn d.points × AllByRecursion RatingIn d.elements in
       let b : P (year_after h rest) = subst P (gathers h rest) a in
       let some : 0 < length (year_after h rest).points = omega (arith, c.0, r.points.0) in
       (few, (c, ((r.revenue, r.common, r.locational, r.other), ((λ _. r.year), ((λ i l. All-get_or IdentifierIn (year_after h rest).points i no_point l b.0), ((λ i l. All-get_or RatingIn (year_after h rest).elements i no_element l b.1), (k.distinct, (k.named, (k.rising, (k.within, (k.used, (k.priced, ((λ z. absurd (omega arith)), tt)))))))))))))

@@ -1,6 +1,6 @@
 -- A year and its file determine each other. Assumes nothing.
 use Rattle.std.proofs.Common.{◌≡◌, ℕ, zero, suc, ◌+◌, ◌-◌, ◌*◌, ◌%◌, ◌^◌, ◌<◌, ◌≤◌, Bool, true, false, cond, eqb, ltb, leb, ◌⊎◌, List, [], ◌∷◌, ◌++◌, map, length, get_or, take, drop, ℤ, pos, negsuc, nat_abs, IfOk, Some, None, Ok, Err, sum_by, Option, Result, sym, refl, ap, ◌∙◌, subst, inl, inr, append_assoc, append-nil, arith, length-append, MatchResult}
-use Rattle.std.specs.List.{AllByRecursion as All}
+use Rattle.std.specs.List.{AllByRecursion}
 use Rattle.std.proofs.ByRecursion.{All-from_get_or}
 use Rattle.std.proofs.lemmas.List.{take-append-drop, length-drop, length-take-le, drop_all, drop-drop, take_at, drop_at}
 use Rattle.std.proofs.lemmas.List.Sums.{get_or-le-sum_by}
@@ -117,13 +117,13 @@ module _ (d : YearData) (so : Sound d) where
       let c : (get_or d.uses k no_use).demand ≤ 16777215 = omega (arith, own, g, u) in
       ((omega (arith, a), (omega arith, a)), ((omega (arith, b), (omega arith, b)), ((omega (arith, c), (omega arith, c)), ((refl, (omega arith, omega arith)), tt))))
 
-  pub points_in : All PointIn d.points
+  pub points_in : AllByRecursion PointIn d.points
   points_in = All-from_get_or PointIn d.points no_point point_in
 
-  pub elements_in : All ElementIn d.elements
+  pub elements_in : AllByRecursion ElementIn d.elements
   elements_in = All-from_get_or ElementIn d.elements no_element element_in
 
-  pub uses_in : All UseIn d.uses
+  pub uses_in : AllByRecursion UseIn d.uses
   uses_in = All-from_get_or UseIn d.uses no_use use_in
 
 -- the records of a year without its header
@@ -131,7 +131,7 @@ abbrev body : YearData → List ℕ
 body d = all_bytes point_bytes d.points ++ (all_bytes element_bytes d.elements ++ all_bytes use_bytes d.uses)
 
 -- records that keep their ranges, of a kind that sets no further limits
-ranged : {X : Type 0} {P Q : X → Type 0} (xs : List X) → ((x : X) → P x → Q x) → All P xs → All Q xs
+ranged : {X : Type 0} {P Q : X → Type 0} (xs : List X) → ((x : X) → P x → Q x) → AllByRecursion P xs → AllByRecursion Q xs
 ranged [] f h = tt
 ranged (x ∷ xs) f h = (f x h.0, ranged xs f h.1)
 
@@ -152,15 +152,15 @@ module _ (d : YearData) (so : Sound d) where
   unfolding header_form
   header-ranged = header_in d so
 
-  points-ranged : All (InRange point_form) ps
+  points-ranged : AllByRecursion (InRange point_form) ps
   unfolding point_form
   points-ranged = ranged ps (λ x k. (k, tt)) (points_in d so)
 
-  elements-ranged : All (InRange element_form) es
+  elements-ranged : AllByRecursion (InRange element_form) es
   unfolding element_form
   elements-ranged = ranged es (λ x k. (k, tt)) (elements_in d so)
 
-  uses-ranged : All (InRange use_form) us
+  uses-ranged : AllByRecursion (InRange use_form) us
   unfolding use_form
   uses-ranged = ranged us (λ x k. (k, tt)) (uses_in d so)
 
@@ -284,13 +284,13 @@ module _ (file : List ℕ) (bytes : Bytes file) (fine : None ≡ first_fault fil
   rest-bytes : Bytes rest
   rest-bytes = bytes_drop 27 file bytes
 
-  points_none : All (λ b. (k : ℕ) × (None ≡ point_fault (k + 1) b)) (parts 15 hd.points rest) × (None ≡ first_told_fault (numbered an-element (0 + hd.points) (parts 9 hd.elements mid) ++ numbered a-use (0 + hd.points + hd.elements) (parts 5 hd.uses last)))
+  points_none : AllByRecursion (λ b. (k : ℕ) × (None ≡ point_fault (k + 1) b)) (parts 15 hd.points rest) × (None ≡ first_told_fault (numbered an-element (0 + hd.points) (parts 9 hd.elements mid) ++ numbered a-use (0 + hd.points + hd.elements) (parts 5 hd.uses last)))
   points_none = told_none a_point 0 (parts 15 hd.points rest) _ records-none
 
-  elements-none : All (λ b. (k : ℕ) × (None ≡ element_fault (k + 1) b)) (parts 9 hd.elements mid) × (None ≡ first_told_fault (numbered a-use (0 + hd.points + hd.elements) (parts 5 hd.uses last)))
+  elements-none : AllByRecursion (λ b. (k : ℕ) × (None ≡ element_fault (k + 1) b)) (parts 9 hd.elements mid) × (None ≡ first_told_fault (numbered a-use (0 + hd.points + hd.elements) (parts 5 hd.uses last)))
   elements-none = told_none an-element (0 + hd.points) (parts 9 hd.elements mid) _ points_none.1
 
-  uses-none : All (λ b. (k : ℕ) × (None ≡ use_fault (k + 1) b)) (parts 5 hd.uses last)
+  uses-none : AllByRecursion (λ b. (k : ℕ) × (None ≡ use_fault (k + 1) b)) (parts 5 hd.uses last)
   uses-none =
       let n = elements-none.1 ∙ ap first_told_fault (sym (append-nil (numbered a-use (0 + hd.points + hd.elements) (parts 5 hd.uses last)))) in
       (told_none a-use (0 + hd.points + hd.elements) (parts 5 hd.uses last) [] n).0

@@ -1,6 +1,6 @@
 -- Records of one kind, written one after another and taken apart again. Assumes nothing.
 use Rattle.std.proofs.Common.{◌≡◌, ℕ, zero, suc, ◌+◌, ◌-◌, ◌*◌, ◌<◌, ◌≤◌, List, [], ◌∷◌, ◌++◌, map, length, get_or, take, drop, Some, None, Option, sym, refl, ap, ◌∙◌, append_assoc, mul-zero, mul-suc, arith, length-append}
-use Rattle.std.specs.List.{AllByRecursion as All}
+use Rattle.std.specs.List.{AllByRecursion}
 use Rattle.std.proofs.lemmas.List.{take-append-drop, length-take-le, length-drop, drop-drop, take_at, drop_at}
 use Rattle.bits.specs.Forms.{Form, record_of, record_fault, record_bytes, InRange}
 use Rattle.bits.specs.Laid.{◌or_else◌}
@@ -27,13 +27,13 @@ or_none (Some f) g h = (h, grind arith)
 
 -- parts without a fault, whatever their place
 module _ (kind : List ℕ → ℕ → Told) where
-  pub none_told : (n : ℕ) (ps : List (List ℕ)) (ts : List Told) → All (λ b. (k : ℕ) → told_fault (kind b k) ≡ None) ps → first_told_fault (numbered kind n ps ++ ts) ≡ first_told_fault ts
+  pub none_told : (n : ℕ) (ps : List (List ℕ)) (ts : List Told) → AllByRecursion (λ b. (k : ℕ) → told_fault (kind b k) ≡ None) ps → first_told_fault (numbered kind n ps ++ ts) ≡ first_told_fault ts
   unfolding numbered first_told_fault
   none_told n [] ts h = refl
   none_told n (p ∷ ps) ts h =
       ap (λ (o : Option Fault). o or_else first_told_fault (numbered kind (suc n) ps ++ ts)) (h.0 n) ∙ none_told (suc n) ps ts h.1
 
-  pub told_none : (n : ℕ) (ps : List (List ℕ)) (ts : List Told) → None ≡ first_told_fault (numbered kind n ps ++ ts) → All (λ b. (k : ℕ) × (None ≡ told_fault (kind b k))) ps × (None ≡ first_told_fault ts)
+  pub told_none : (n : ℕ) (ps : List (List ℕ)) (ts : List Told) → None ≡ first_told_fault (numbered kind n ps ++ ts) → AllByRecursion (λ b. (k : ℕ) × (None ≡ told_fault (kind b k))) ps × (None ≡ first_told_fault ts)
   unfolding numbered first_told_fault
   told_none n [] ts h = (tt, h)
   told_none n (p ∷ ps) ts h =
@@ -63,16 +63,16 @@ module _ {X : Type 0} (F : Form X) where
 
   module _ (law : Lawful F) where
     -- records in their ranges are read back from their bytes, without a fault
-    pub read_back : (xs : List X) → All (InRange F) xs → map (record_of F) (map (record_bytes F) xs) ≡ xs
+    pub read_back : (xs : List X) → AllByRecursion (InRange F) xs → map (record_of F) (map (record_bytes F) xs) ≡ xs
     read_back [] h = refl
     read_back (x ∷ xs) h = rw ((written_read F law 0 x h.0).1, read_back xs h.1)
 
-    pub none_back : (xs : List X) → All (InRange F) xs → All (λ b. (k : ℕ) → record_fault F (k + 1) b ≡ None) (map (record_bytes F) xs)
+    pub none_back : (xs : List X) → AllByRecursion (InRange F) xs → AllByRecursion (λ b. (k : ℕ) → record_fault F (k + 1) b ≡ None) (map (record_bytes F) xs)
     none_back [] h = tt
     none_back (x ∷ xs) h = ((λ k. (written_read F law (k + 1) x h.0).0), none_back xs h.1)
 
     -- parts without a fault are the bytes of the records in them
-    pub write_back : (n : ℕ) (bs : List ℕ) → F.size * n ≤ length bs → Bytes bs → All (λ b. (k : ℕ) × (None ≡ record_fault F (k + 1) b)) (parts F.size n bs)
+    pub write_back : (n : ℕ) (bs : List ℕ) → F.size * n ≤ length bs → Bytes bs → AllByRecursion (λ b. (k : ℕ) × (None ≡ record_fault F (k + 1) b)) (parts F.size n bs)
         → all_bytes (record_bytes F) (map (record_of F) (parts F.size n bs)) ++ drop (F.size * n) bs ≡ bs
     unfolding parts all_bytes
     write_back zero bs l b h = rw mul-zero

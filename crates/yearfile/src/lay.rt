@@ -1,6 +1,6 @@
 // Records laid into a buffer one after another.
 ghost use Rattle.std.specs.Prelude.{◌≡◌, ℕ, ◌+◌, ◌≤◌, List, length};
-ghost use Rattle.std.specs.List.{AllByRecursion as All};
+ghost use Rattle.std.specs.List.{AllByRecursion};
 ghost use Rattle.records.specs.Elements.{element_bytes, ElementIn};
 ghost use Rattle.records.specs.Headers.{header_bytes, HeaderIn};
 ghost use Rattle.records.specs.Points.{point_bytes, PointIn};
@@ -80,10 +80,10 @@ impl Lay for NetworkUse {
 
 // Lays records one after another from `at` on, and answers where they end.
 pub fn lay_all<T: Lay>(items: &[T], buffer: &mut [u8], at: usize) -> usize
-    requires ranged { All ranged items.now }
-    requires room { at + length (all_bytes bytes items.now) ≤ length buffer.old }
-    ensures after { buffer.new ≡ laid_at at (all_bytes bytes items.now) buffer.old }
-    ensures end { result ≡ at + length (all_bytes bytes items.now) }
+    requires ranged { AllByRecursion T.ranged items.now }
+    requires room { at + length (all_bytes T.bytes items.now) ≤ length buffer.old }
+    ensures after { buffer.new ≡ laid_at at (all_bytes T.bytes items.now) buffer.old }
+    ensures end { result ≡ at + length (all_bytes T.bytes items.now) }
 {
     let mut end = at;
     for item in items {

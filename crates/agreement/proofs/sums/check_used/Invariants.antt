@@ -1,5 +1,5 @@
 use Rattle.agreement.proofs.Uses.{Used}
 use Rattle.agreement.proofs.sums.check_used.Given as goal
 
-abbrev pub invariant-loop-network-use : goal.invariant-loop-network-use
-invariant-loop-network-use l = Used l.uses l.network-use-index l.used
+abbrev pub invariant-loop-network_use : goal.invariant-loop-network_use
+invariant-loop-network_use l = Used l.uses l.network_use-index l.used

@@ -1,5 +1,5 @@
 use Rattle.std.proofs.Common.{◌≡◌, ℕ, ◌+◌, List, length, sym, refl, ap, ◌∙◌, subst, arith}
-use Rattle.std.specs.List.{AllByRecursion as All}
+use Rattle.std.specs.List.{AllByRecursion}
 use Rattle.records.specs.Elements.{ElementIn, element_bytes}
 use Rattle.records.specs.Headers.{header_bytes}
 use Rattle.records.specs.Points.{PointIn, point_bytes}
@@ -34,7 +34,7 @@ lay-all-past-points-requires c =
     let ps = c.points-points.ensures in
     let some = some_of _ d.points ps c.if-is-empty.ensures in
     record {
-      ranged = subst (λ (l : List Point). All PointIn l) (sym ps) (points_in d (sound_of c.args.self.now some));
+      ranged = subst (λ (l : List Point). AllByRecursion PointIn l) (sym ps) (points_in d (sound_of c.args.self.now some));
       room = omega (arith, ap length ps, ap (λ (l : List Point). length (all_bytes point_bytes l)) ps, length_header d, length-points d, c.lay-past-header.ensures.end, c.lay-past-header.auto.buffer, c.if-buffer-whole.false);
     }
 
@@ -45,7 +45,7 @@ lay-all-past-elements-requires c =
     let es = c.elements-elements.ensures in
     let some = some_of _ d.points ps c.if-is-empty.ensures in
     record {
-      ranged = subst (λ (l : List Element). All ElementIn l) (sym es) (elements_in d (sound_of c.args.self.now some));
+      ranged = subst (λ (l : List Element). AllByRecursion ElementIn l) (sym es) (elements_in d (sound_of c.args.self.now some));
       room = omega (arith, ap length ps, ap length es, ap (λ (l : List Point). length (all_bytes point_bytes l)) ps, ap (λ (l : List Element). length (all_bytes element_bytes l)) es, length_header d, length-points d, length_elements d, c.lay-past-header.ensures.end, c.lay-all-past-points.ensures.end, c.lay-past-header.auto.buffer, c.lay-all-past-points.auto.buffer, c.if-buffer-whole.false);
     }
 
@@ -57,7 +57,7 @@ lay-all-requires c =
     let us = c.uses-uses.ensures in
     let some = some_of _ d.points ps c.if-is-empty.ensures in
     record {
-      ranged = subst (λ (l : List NetworkUse). All UseIn l) (sym us) (uses_in d (sound_of c.args.self.now some));
+      ranged = subst (λ (l : List NetworkUse). AllByRecursion UseIn l) (sym us) (uses_in d (sound_of c.args.self.now some));
       room = omega (arith, ap length ps, ap length es, ap length us, ap (λ (l : List Point). length (all_bytes point_bytes l)) ps, ap (λ (l : List Element). length (all_bytes element_bytes l)) es, ap (λ (l : List NetworkUse). length (all_bytes use_bytes l)) us, length_header d, length-points d, length_elements d, length_uses d, c.lay-past-header.ensures.end, c.lay-all-past-points.ensures.end, c.lay-all-past-elements.ensures.end, c.lay-past-header.auto.buffer, c.lay-all-past-points.auto.buffer, c.lay-all-past-elements.auto.buffer, c.if-buffer-whole.false);
     }
 
