@@ -131,9 +131,20 @@ all_keep (an-element bs n ∷ ts) h =
 all_keep (a-use bs n ∷ ts) h = all_keep ts (or_none (use_fault (n + 1) bs) _ h).1
 
 -- what the struct of a checked year asks, in its order
-abbrev pub Limits : YearData → Type 0
-Limits d =
-    Few d × (Counted d × (Figures d × (Dated d × (Identified d × (Rated d × (Distinct d.points × (Named d × (Rising d.uses × (Within d × (UsedWithin d × (Priced d × (Blank d × Unit {0}))))))))))))
+pub record Limits (d : YearData) : Type 0 where
+  pub few : Few d
+  pub counted : Counted d
+  pub figures : Figures d
+  pub dated : Dated d
+  pub identified : Identified d
+  pub rated : Rated d
+  pub distinct : Distinct d.points
+  pub named : Named d
+  pub rising : Rising d.uses
+  pub within : Within d
+  pub used : UsedWithin d
+  pub priced : Priced d
+  pub blank : Blank d
 
 module _ (h : Header) (rest : List ℕ) (in_range : HeaderIn h) where
   pub few : Few (year_after h rest)
@@ -152,7 +163,21 @@ module _ (h : Header) (rest : List ℕ) (in_range : HeaderIn h) where
       let P : YearData → Type 0 = λ d. AllByRecursion IdentifierIn d.points × AllByRecursion RatingIn d.elements in
       let b : P (year_after h rest) = subst P (gathers h rest) a in
       let some : 0 < length (year_after h rest).points = omega (arith, c.0, r.points.0) in
-      (few, (c, ((r.revenue, r.common, r.locational, r.other), ((λ _. r.year), ((λ i l. All-get_or IdentifierIn (year_after h rest).points i no_point l b.0), ((λ i l. All-get_or RatingIn (year_after h rest).elements i no_element l b.1), (k.distinct, (k.named, (k.rising, (k.within, (k.used, (k.priced, ((λ z. absurd (omega arith)), tt)))))))))))))
+      record {
+        few = few;
+        counted = c;
+        figures = (r.revenue, r.common, r.locational, r.other);
+        dated = λ _. r.year;
+        identified = λ i l. All-get_or IdentifierIn (year_after h rest).points i no_point l b.0;
+        rated = λ i l. All-get_or RatingIn (year_after h rest).elements i no_element l b.1;
+        distinct = k.distinct;
+        named = k.named;
+        rising = k.rising;
+        within = k.within;
+        used = k.used;
+        priced = k.priced;
+        blank = λ z. absurd (omega arith);
+      }
 
 -- the parts of a file as the code has them: its header, the rest, and the records told of it
 pub record Taken (file : List ℕ) (h : Header) (rest : List ℕ) (ts : List Told) : Type 0 where

@@ -338,18 +338,18 @@ module _ (file : List ℕ) (bytes : Bytes file) (fine : None ≡ first_fault fil
       let l = limits hd rest header-kept records-none together-none in
       record {
         some = omega (arith, (counts hd rest).0, (ranges hd header-kept).points.0);
-        few = l.0;
-        counted = l.1.0;
-        figures = l.1.1.0;
-        dated = l.1.1.1.0;
-        identified = l.1.1.1.1.0;
-        rated = l.1.1.1.1.1.0;
-        distinct = l.1.1.1.1.1.1.0;
-        named = l.1.1.1.1.1.1.1.0;
-        rising = l.1.1.1.1.1.1.1.1.0;
-        within = l.1.1.1.1.1.1.1.1.1.0;
-        used = l.1.1.1.1.1.1.1.1.1.1.0;
-        priced = l.1.1.1.1.1.1.1.1.1.1.1.0;
+        few = l.few;
+        counted = l.counted;
+        figures = l.figures;
+        dated = l.dated;
+        identified = l.identified;
+        rated = l.rated;
+        distinct = l.distinct;
+        named = l.named;
+        rising = l.rising;
+        within = l.within;
+        used = l.used;
+        priced = l.priced;
       }
 
 -- what a read that answers so says of the file

@@ -19,46 +19,46 @@ returns-then-buffer-whole c =
     let p = ap length c.points-points.ensures in
     let e = ap length c.elements-elements.ensures in
     let u = ap length c.uses-uses.ensures in
-    let some = some_of _ d.points c.points-points.ensures c.if-is-empty.ensures in
+    let some = some_of _ d.points c.points-points.ensures c.if-is_empty.ensures in
     record { refused = short d (length c.args.buffer.now) some (omega (arith, p, e, u, c.if-buffer-whole.true)); written = refl; back = tt }
 
-pub lay-past-header-requires : goal.lay-past-header-requires
-lay-past-header-requires c =
+pub lay-past_header-requires : goal.lay-past_header-requires
+lay-past_header-requires c =
     let d = contents c.args.self.now in
-    let some = some_of _ d.points c.points-points.ensures c.if-is-empty.ensures in
+    let some = some_of _ d.points c.points-points.ensures c.if-is_empty.ensures in
     record { ranged = header_in d (sound_of c.args.self.now some); room = omega (arith, length_header d, c.if-buffer-whole.false) }
 
-pub lay-all-past-points-requires : goal.lay-all-past-points-requires
-lay-all-past-points-requires c =
+pub lay_all-past_points-requires : goal.lay_all-past_points-requires
+lay_all-past_points-requires c =
     let d = contents c.args.self.now in
     let ps = c.points-points.ensures in
-    let some = some_of _ d.points ps c.if-is-empty.ensures in
+    let some = some_of _ d.points ps c.if-is_empty.ensures in
     record {
       ranged = subst (λ (l : List Point). AllByRecursion PointIn l) (sym ps) (points_in d (sound_of c.args.self.now some));
-      room = omega (arith, ap length ps, ap (λ (l : List Point). length (all_bytes point_bytes l)) ps, length_header d, length-points d, c.lay-past-header.ensures.end, c.lay-past-header.auto.buffer, c.if-buffer-whole.false);
+      room = omega (arith, ap length ps, ap (λ (l : List Point). length (all_bytes point_bytes l)) ps, length_header d, length-points d, c.lay-past_header.ensures.end, c.lay-past_header.auto.buffer, c.if-buffer-whole.false);
     }
 
-pub lay-all-past-elements-requires : goal.lay-all-past-elements-requires
-lay-all-past-elements-requires c =
+pub lay_all-past_elements-requires : goal.lay_all-past_elements-requires
+lay_all-past_elements-requires c =
     let d = contents c.args.self.now in
     let ps = c.points-points.ensures in
     let es = c.elements-elements.ensures in
-    let some = some_of _ d.points ps c.if-is-empty.ensures in
+    let some = some_of _ d.points ps c.if-is_empty.ensures in
     record {
       ranged = subst (λ (l : List Element). AllByRecursion ElementIn l) (sym es) (elements_in d (sound_of c.args.self.now some));
-      room = omega (arith, ap length ps, ap length es, ap (λ (l : List Point). length (all_bytes point_bytes l)) ps, ap (λ (l : List Element). length (all_bytes element_bytes l)) es, length_header d, length-points d, length_elements d, c.lay-past-header.ensures.end, c.lay-all-past-points.ensures.end, c.lay-past-header.auto.buffer, c.lay-all-past-points.auto.buffer, c.if-buffer-whole.false);
+      room = omega (arith, ap length ps, ap length es, ap (λ (l : List Point). length (all_bytes point_bytes l)) ps, ap (λ (l : List Element). length (all_bytes element_bytes l)) es, length_header d, length-points d, length_elements d, c.lay-past_header.ensures.end, c.lay_all-past_points.ensures.end, c.lay-past_header.auto.buffer, c.lay_all-past_points.auto.buffer, c.if-buffer-whole.false);
     }
 
-pub lay-all-requires : goal.lay-all-requires
-lay-all-requires c =
+pub lay_all-requires : goal.lay_all-requires
+lay_all-requires c =
     let d = contents c.args.self.now in
     let ps = c.points-points.ensures in
     let es = c.elements-elements.ensures in
     let us = c.uses-uses.ensures in
-    let some = some_of _ d.points ps c.if-is-empty.ensures in
+    let some = some_of _ d.points ps c.if-is_empty.ensures in
     record {
       ranged = subst (λ (l : List NetworkUse). AllByRecursion UseIn l) (sym us) (uses_in d (sound_of c.args.self.now some));
-      room = omega (arith, ap length ps, ap length es, ap length us, ap (λ (l : List Point). length (all_bytes point_bytes l)) ps, ap (λ (l : List Element). length (all_bytes element_bytes l)) es, ap (λ (l : List NetworkUse). length (all_bytes use_bytes l)) us, length_header d, length-points d, length_elements d, length_uses d, c.lay-past-header.ensures.end, c.lay-all-past-points.ensures.end, c.lay-all-past-elements.ensures.end, c.lay-past-header.auto.buffer, c.lay-all-past-points.auto.buffer, c.lay-all-past-elements.auto.buffer, c.if-buffer-whole.false);
+      room = omega (arith, ap length ps, ap length es, ap length us, ap (λ (l : List Point). length (all_bytes point_bytes l)) ps, ap (λ (l : List Element). length (all_bytes element_bytes l)) es, ap (λ (l : List NetworkUse). length (all_bytes use_bytes l)) us, length_header d, length-points d, length_elements d, length_uses d, c.lay-past_header.ensures.end, c.lay_all-past_points.ensures.end, c.lay_all-past_elements.ensures.end, c.lay-past_header.auto.buffer, c.lay_all-past_points.auto.buffer, c.lay_all-past_elements.auto.buffer, c.if-buffer-whole.false);
     }
 
 pub returns : goal.returns
@@ -67,12 +67,12 @@ returns c =
     let ps = c.points-points.ensures in
     let es = c.elements-elements.ensures in
     let us = c.uses-uses.ensures in
-    let some = some_of _ d.points ps c.if-is-empty.ensures in
+    let some = some_of _ d.points ps c.if-is_empty.ensures in
     let s = sent (header_bytes d.header) (all_bytes point_bytes d.points) (all_bytes element_bytes d.elements) (all_bytes use_bytes d.uses) c.args.buffer.now _ _ _ _ _ _ _ _
-    c.lay-past-header.ensures.after c.lay-past-header.ensures.end
-    (c.lay-all-past-points.ensures.after ∙ ap (λ (l : List Point). laid_at c.lay-past-header.result (all_bytes point_bytes l) c.lay-past-header.new.buffer) ps) (c.lay-all-past-points.ensures.end ∙ ap (λ (l : List Point). c.lay-past-header.result + length (all_bytes point_bytes l)) ps)
-    (c.lay-all-past-elements.ensures.after ∙ ap (λ (l : List Element). laid_at c.lay-all-past-points.result (all_bytes element_bytes l) c.lay-all-past-points.new.buffer) es) (c.lay-all-past-elements.ensures.end ∙ ap (λ (l : List Element). c.lay-all-past-points.result + length (all_bytes element_bytes l)) es)
-    (c.lay-all.ensures.after ∙ ap (λ (l : List NetworkUse). laid_at c.lay-all-past-elements.result (all_bytes use_bytes l) c.lay-all-past-elements.new.buffer) us) (c.lay-all.ensures.end ∙ ap (λ (l : List NetworkUse). c.lay-all-past-elements.result + length (all_bytes use_bytes l)) us) in
+    c.lay-past_header.ensures.after c.lay-past_header.ensures.end
+    (c.lay_all-past_points.ensures.after ∙ ap (λ (l : List Point). laid_at c.lay-past_header.result (all_bytes point_bytes l) c.lay-past_header.new.buffer) ps) (c.lay_all-past_points.ensures.end ∙ ap (λ (l : List Point). c.lay-past_header.result + length (all_bytes point_bytes l)) ps)
+    (c.lay_all-past_elements.ensures.after ∙ ap (λ (l : List Element). laid_at c.lay_all-past_points.result (all_bytes element_bytes l) c.lay_all-past_points.new.buffer) es) (c.lay_all-past_elements.ensures.end ∙ ap (λ (l : List Element). c.lay_all-past_points.result + length (all_bytes element_bytes l)) es)
+    (c.lay_all.ensures.after ∙ ap (λ (l : List NetworkUse). laid_at c.lay_all-past_elements.result (all_bytes use_bytes l) c.lay_all-past_elements.new.buffer) us) (c.lay_all.ensures.end ∙ ap (λ (l : List NetworkUse). c.lay_all-past_elements.result + length (all_bytes use_bytes l)) us) in
     record {
       refused = fits d (length c.args.buffer.now) some (omega (arith, ap length ps, ap length es, ap length us, c.if-buffer-whole.false));
       written = s;
