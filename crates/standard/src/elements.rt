@@ -33,7 +33,7 @@ pub(crate) fn part_after<R: Rule>(
     requires pool { pool ≤ 100000000000 }
     requires cost { before + element.now.cost ≤ total }
     requires total { total ≤ 10000000 }
-    ensures { result ≡ reduced rule.now (share_of pool before element.now.cost total) element.now }
+    ensures { result ≡ R.reduced rule.now (share_of pool before element.now.cost total) element.now }
 {
     rule.reduce(
         share_within(pool, before, element.cost as u64, total),
@@ -46,7 +46,7 @@ pub(crate) fn part_of<R: Rule>(rule: &R, elements: &[Element], pool: u64, place:
     requires pool { pool ≤ 100000000000 }
     requires place { place < length elements.now }
     requires costs { sum (costs elements.now) ≤ 10000000 }
-    ensures { result ≡ slice_index (parts_of (reduced rule.now) elements.now pool) place }
+    ensures { result ≡ slice_index (parts_of (R.reduced rule.now) elements.now pool) place }
 {
     let (earlier, _) = elements.split_at(place);
     let before = total_cost(earlier);

@@ -22,7 +22,7 @@ pub(crate) fn amount_of<R: Rule>(
     requires costs { sum (costs elements.now) ≤ 10000000 }
     requires used { (e : ℕ) → e < length elements.now → total_use e uses.now ≤ 10000000 }
     requires rises { Rises 0 uses.now }
-    ensures { result ≡ of_parts uses.now place 0 (parts_of (reduced rule.now) elements.now pool) }
+    ensures { result ≡ of_parts uses.now place 0 (parts_of (R.reduced rule.now) elements.now pool) }
 {
     let total = total_cost(elements);
     let mut rest = uses;
@@ -52,7 +52,7 @@ pub(crate) fn amounts_of<R: Rule>(
     requires used { (e : ℕ) → e < length elements.now → total_use e uses.now ≤ 10000000 }
     requires rises { Rises 0 uses.now }
     requires placed { Placed 64 uses.now }
-    ensures { (p : ℕ) → p < 64 → slice_index result p ≡ of_parts uses.now p 0 (parts_of (reduced rule.now) elements.now pool) }
+    ensures { (p : ℕ) → p < 64 → slice_index result p ≡ of_parts uses.now p 0 (parts_of (R.reduced rule.now) elements.now pool) }
 {
     let total = total_cost(elements);
     let mut rest = uses;

@@ -4,8 +4,8 @@ use Rattle.records.specs.declared.element.Element.{Element}
 use Rattle.standard.proofs.Totalling.{total_more, total_front, total_all}
 use Rattle.standard.proofs.elements.total_cost.Goals as goal
 
-pub overflow-add-total : goal.overflow-add-total
-overflow-add-total c =
+pub overflow_add-total : goal.overflow_add-total
+overflow_add-total c =
     let f : Element → ℕ = λ e. e.cost in
     let es = c.args.elements.now in
     let i = c.loop-element.element-index in

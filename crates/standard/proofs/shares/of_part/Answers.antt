@@ -8,21 +8,21 @@ use Rattle.standard.proofs.shares.of_part.Goals as goal
 use Rattle.standard.proofs.shares.of_part.Goals.{then-item-place, else-item-place}
 
 pub loop-item-init : goal.loop-item-init
-loop-item-init c = (refl, omega (arith, left_all c.args.part c.total-demand-total.result c.args.place c.args.uses.now c.total-demand-total.ensures))
+loop-item-init c = (refl, omega (arith, left_all c.args.part c.total_demand-total.result c.args.place c.args.uses.now c.total_demand-total.ensures))
 
-pub share-within-amount-requires : goal.share-within-amount-requires
-share-within-amount-requires c =
+pub share_within-amount-requires : goal.share_within-amount-requires
+share_within-amount-requires c =
     let f : NetworkUse → ℕ = λ u. u.demand in
     let us = c.args.uses.now in
     let i = c.loop-item.item-index in
     record {
       amount = c.requires.part;
-      weight = omega (arith, c.loop-item.invariant.0, c.total-demand-total.ensures, total_more f us i no_use (omega arith), total_front f us (i + 1));
-      total = omega (arith, c.total-demand-total.ensures, c.requires.used);
+      weight = omega (arith, c.loop-item.invariant.0, c.total_demand-total.ensures, total_more f us i no_use (omega arith), total_front f us (i + 1));
+      total = omega (arith, c.total_demand-total.ensures, c.requires.used);
     }
 
-pub overflow-add-amount : goal.overflow-add-amount
-overflow-add-amount c =
+pub overflow_add-amount : goal.overflow_add-amount
+overflow_add-amount c =
     let us = c.args.uses.now in
     let part = c.args.part in
     let p = c.args.place in
@@ -30,13 +30,13 @@ overflow-add-amount c =
       arith,
       c.requires.part,
       c.loop-item.invariant.1,
-      c.share-within-amount.ensures,
-      left_own part c.total-demand-total.result p c.loop-item.before us c.loop-item.item-index (omega arith) c.if-item-place.true,
+      c.share_within-amount.ensures,
+      left_own part c.total_demand-total.result p c.loop-item.before us c.loop-item.item-index (omega arith) c.if-item-place.true,
       part_has part p us,
     )
 
-pub overflow-add-before : goal.overflow-add-before
-overflow-add-before c =
+pub overflow_add-before : goal.overflow_add-before
+overflow_add-before c =
     let f : NetworkUse → ℕ = λ u. u.demand in
     let us = c.args.uses.now in
     let i = c.loop-item.item-index in
@@ -47,17 +47,17 @@ loop-item-preserved c =
     let f : NetworkUse → ℕ = λ u. u.demand in
     let us = c.args.uses.now in
     let part = c.args.part in
-    let total = c.total-demand-total.result in
+    let total = c.total_demand-total.result in
     let p = c.args.place in
     let i = c.loop-item.item-index in
     let b = c.loop-item.before in (
       omega (arith, c.loop-item.invariant.0, total_more f us i no_use (omega arith)),
       elim c.if-item-place.branch [
-        | then-item-place w ↦ omega (arith, c.loop-item.invariant.1, w.amount-is, w.share-within-amount.ensures, left_own part total p b us i (omega arith) w.if-item-place.true)
+        | then-item-place w ↦ omega (arith, c.loop-item.invariant.1, w.amount-is, w.share_within-amount.ensures, left_own part total p b us i (omega arith) w.if-item-place.true)
         | else-item-place w ↦ omega (arith, c.loop-item.invariant.1, w.amount-is, left_other part total p b us i (omega arith) w.if-item-place.false)
       ],
     )
 
 pub returns : goal.returns
 returns c =
-    omega (arith, c.loop-item.invariant.1, left_none c.args.part c.total-demand-total.result c.args.place c.loop-item.before c.args.uses.now c.loop-item.item-index (omega arith))
+    omega (arith, c.loop-item.invariant.1, left_none c.args.part c.total_demand-total.result c.args.place c.loop-item.before c.args.uses.now c.loop-item.item-index (omega arith))

@@ -4,8 +4,8 @@ use Rattle.records.specs.declared.network_use.NetworkUse.{NetworkUse}
 use Rattle.standard.proofs.Totalling.{total_more, total_front, total_all}
 use Rattle.standard.proofs.shares.total_demand.Goals as goal
 
-pub overflow-add-total : goal.overflow-add-total
-overflow-add-total c =
+pub overflow_add-total : goal.overflow_add-total
+overflow_add-total c =
     let f : NetworkUse → ℕ = λ u. u.demand in
     let us = c.args.uses.now in
     let i = c.loop-item.item-index in

@@ -15,18 +15,18 @@ loop-place-init g c =
     let parts = parts_of (g.R.Rule.reduced c.args.rule.now) c.args.elements.now c.args.pool in
     (walked_none c.args.elements.now us c.requires.rises, refl, λ p h. omega (arith, get_or-replicate {A = ℕ} 64 p 0 0 h))
 
-pub split-at-requires : goal.split-at-requires
-split-at-requires g c = omega (arith, c.own-uses.ensures, prefix_len-le-length (own c.loop-place.place) c.loop-place.rest.now)
+pub split_at-requires : goal.split_at-requires
+split_at-requires g c = omega (arith, c.own_uses.ensures, prefix_len-le-length (own c.loop-place.place) c.loop-place.rest.now)
 
-pub part-after-part-requires : goal.part-after-part-requires
-part-after-part-requires g c = record {
+pub part_after-part-requires : goal.part_after-part-requires
+part_after-part-requires g c = record {
   pool = c.requires.pool;
-  cost = omega (arith, c.total-cost-total.ensures, cost_fits c.args.elements.now c.args.uses.now c.loop-place.place c.loop-place.before c.loop-place.rest.now c.loop-place.invariant.0 (omega arith));
-  total = omega (arith, c.total-cost-total.ensures, c.requires.costs);
+  cost = omega (arith, c.total_cost-total.ensures, cost_fits c.args.elements.now c.args.uses.now c.loop-place.place c.loop-place.before c.loop-place.rest.now c.loop-place.invariant.0 (omega arith));
+  total = omega (arith, c.total_cost-total.ensures, c.requires.costs);
 }
 
-pub add-shares-requires : goal.add-shares-requires
-add-shares-requires g c =
+pub add_shares-requires : goal.add_shares-requires
+add_shares-requires g c =
     let es = c.args.elements.now in
     let us = c.args.uses.now in
     let i = c.loop-place.place in
@@ -38,20 +38,20 @@ add-shares-requires g c =
     let b = c.loop-place.before in
     let rest = c.loop-place.rest.now in
     let so = c.loop-place.invariant.0 in
-    let count = c.own-uses.result in
-    let front = c.split-at.result.0.now in
-    let whose : front ≡ uses_of i us = front_is es us i b rest so count c.own-uses.ensures front c.split-at.ensures.front in
-    let part : c.part-after-part.result ≡ get_or parts i 0 =
-    part_is f es pool i b c.total-cost-total.result c.part-after-part.result here so.cost c.total-cost-total.ensures c.part-after-part.ensures in
+    let count = c.own_uses.result in
+    let front = c.split_at.result.0.now in
+    let whose : front ≡ uses_of i us = front_is es us i b rest so count c.own_uses.ensures front c.split_at.ensures.front in
+    let part : c.part_after-part.result ≡ get_or parts i 0 =
+    part_is f es pool i b c.total_cost-total.result c.part_after-part.result here so.cost c.total_cost-total.ensures c.part_after-part.ensures in
     record {
-      used = front-within es us i b rest so count c.own-uses.ensures front c.split-at.ensures.front (c.requires.used i here);
+      used = front-within es us i b rest so count c.own_uses.ensures front c.split_at.ensures.front (c.requires.used i here);
       part = omega (arith, part, part_le f es pool (g.met.R.Rule.less rule) i here, c.requires.pool);
       placed = subst (Placed 64) (sym whose) (placed_of 64 i us c.requires.placed);
       room = λ p h. omega (arith, c.loop-place.invariant.2 p h, parts_have us p 0 parts, parts-sum f es pool (g.met.R.Rule.less rule), c.requires.pool);
     }
 
-pub overflow-add-before : goal.overflow-add-before
-overflow-add-before g c =
+pub overflow_add-before : goal.overflow_add-before
+overflow_add-before g c =
     omega (arith, c.requires.costs, cost_fits c.args.elements.now c.args.uses.now c.loop-place.place c.loop-place.before c.loop-place.rest.now c.loop-place.invariant.0 (omega arith))
 
 pub loop-place-preserved : goal.loop-place-preserved
@@ -67,15 +67,15 @@ loop-place-preserved g c =
     let b = c.loop-place.before in
     let rest = c.loop-place.rest.now in
     let so = c.loop-place.invariant.0 in
-    let count = c.own-uses.result in
-    let front = c.split-at.result.0.now in
-    let whose : front ≡ uses_of i us = front_is es us i b rest so count c.own-uses.ensures front c.split-at.ensures.front in
-    let part : c.part-after-part.result ≡ get_or parts i 0 =
-    part_is f es pool i b c.total-cost-total.result c.part-after-part.result here so.cost c.total-cost-total.ensures c.part-after-part.ensures in
+    let count = c.own_uses.result in
+    let front = c.split_at.result.0.now in
+    let whose : front ≡ uses_of i us = front_is es us i b rest so count c.own_uses.ensures front c.split_at.ensures.front in
+    let part : c.part_after-part.result ≡ get_or parts i 0 =
+    part_is f es pool i b c.total_cost-total.result c.part_after-part.result here so.cost c.total_cost-total.ensures c.part_after-part.ensures in
     let inside : i < length parts = omega (arith, parts-length f es pool) in (
-      walked_more es us i b rest so count c.own-uses.ensures c.split-at.result.1.now here c.split-at.ensures.back,
+      walked_more es us i b rest so count c.own_uses.ensures c.split_at.result.1.now here c.split_at.ensures.back,
       c.type_inv.amounts,
-      λ p h. omega (arith, c.add-shares.ensures p h, amount_more us p parts i (get_or c.loop-place.amounts p 0) inside front whose (of_parts us p 0 parts) (c.loop-place.invariant.2 p h) c.part-after-part.result (of_part c.part-after-part.result p front) part refl),
+      λ p h. omega (arith, c.add_shares.ensures p h, amount_more us p parts i (get_or c.loop-place.amounts p 0) inside front whose (of_parts us p 0 parts) (c.loop-place.invariant.2 p h) c.part_after-part.result (of_part c.part_after-part.result p front) part refl),
     )
 
 pub returns : goal.returns

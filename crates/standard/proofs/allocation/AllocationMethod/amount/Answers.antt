@@ -10,8 +10,8 @@ use Rattle.standard.specs.Exchange.{amount_at}
 use Rattle.standard.proofs.OfYear.{costs-within, uses_rise, lent_has}
 use Rattle.standard.proofs.allocation.AllocationMethod.amount.Goals as goal
 
-pub amount-of-requires : goal.amount-of-requires
-amount-of-requires g c =
+pub amount_of-requires : goal.amount_of-requires
+amount_of-requires g c =
     let y = c.year-year.result.now in
     record {
       pool = omega arith;
@@ -29,7 +29,7 @@ returns g c =
     let p = c.args.place in
     let same : c.year-year.result.now ≡ lent = c.year-year.ensures in
     let here : p < length d.points = omega (arith, ap (λ (y : Year). length (contents y).points) same, ap length c.points.ensures) in
-    let amount : c.amount-of.result ≡ of_parts d.uses p 0 (parts_in f d pool) =
-    lent_has f pool p c.year-year.result.now lent c.elements.result.now c.uses.result.now c.amount-of.result c.amount-of.ensures c.elements.ensures c.uses.ensures same in
+    let amount : c.amount_of.result ≡ of_parts d.uses p 0 (parts_in f d pool) =
+    lent_has f pool p c.year-year.result.now lent c.elements.result.now c.uses.result.now c.amount_of.result c.amount_of.ensures c.elements.ensures c.uses.ensures same in
     ap Ok (amount ∙ sym (amount_at (length d.points) d.uses (parts_in f d pool) p here))
     ∙ sym (asked-within (length d.points) pool p (amounts_in f d pool) (omega arith) here)

@@ -10,8 +10,8 @@ use Rattle.standard.proofs.OfYear.{costs-within, uses_rise, uses_placed, lent_ha
 use Rattle.standard.proofs.Placing.{placed_more}
 use Rattle.standard.proofs.allocation.AllocationMethod.amounts.Goals as goal
 
-pub amounts-of-requires : goal.amounts-of-requires
-amounts-of-requires g c =
+pub amounts_of-requires : goal.amounts_of-requires
+amounts_of-requires g c =
     let y = c.year-year.result.now in
     record {
       pool = omega arith;
