@@ -9,11 +9,11 @@ use Rattle.pricing.proofs.revenues.results.Goals as goal
 pub returns : goal.returns
 unfolding results
 returns c =
-    let t = c.point-totals-totals.ensures in
+    let t = c.point_totals-totals.ensures in
     let h = c.args.header in
     let entry = t.entry ∙ ap entry_cost_of c.points.ensures in
     let exit = t.exit ∙ ap exit_cost_of c.points.ensures in
-    let network = c.network-cost-of.ensures.value ∙ ap network_cost c.elements.ensures in
+    let network = c.network_cost_of.ensures.value ∙ ap network_cost c.elements.ensures in
     let shared : Header → ℕ → ℕ → ℕ → List ℕ = λ h a b n. shares_of (h.allowed_revenue - h.common_operating_cost) (a ∷ b ∷ n ∷ h.common_cost ∷ []) in
-    c.shares-within.ensures
+    c.shares_within.ensures
     ∙ (λ i. shared (c.requires i) (entry i) (exit i) (network i))

@@ -26,25 +26,25 @@ module _ (y : Year) (h : Header) (same : h ≡ (contents y).header) where
     rest-kept left e =
         kept left (rest (contents y)) 200000000000 (e ∙ (λ i. rest_of (get_or (found i) 2 0 - get_or (found i) 2 0 / 2) (l1-kept i) (other-kept i))) (rest_small (contents y) y.figures) (lit< tt)
 
-pub l1-of-l1-requires : goal.l1-of-l1-requires
-l1-of-l1-requires c =
+pub l1_of-l1-requires : goal.l1_of-l1-requires
+l1_of-l1-requires c =
     let y = c.args.year.now in
     record {
       half = omega (arith, ap (λ xs. get_or xs 2 0) c.results-results.ensures, network_most (contents y) y.figures);
       residue = omega (arith, ap nat_abs (locational-kept y c.args.header c.requires), y.figures.2);
     }
 
-pub rest-of-requires : goal.rest-of-requires
-rest-of-requires c =
+pub rest_of-requires : goal.rest_of-requires
+rest_of-requires c =
     let y = c.args.year.now in
     record {
       half = omega (arith, ap (λ xs. get_or xs 2 0) c.results-results.ensures, network_most (contents y) y.figures);
-      l1 = omega (arith, ap nat_abs (l1-kept y c.args.header c.requires c.results-results.result c.results-results.ensures c.l1-of-l1.result c.l1-of-l1.ensures), l1_small (contents y) y.figures);
+      l1 = omega (arith, ap nat_abs (l1-kept y c.args.header c.requires c.results-results.result c.results-results.ensures c.l1_of-l1.result c.l1_of-l1.ensures), l1_small (contents y) y.figures);
       residue = omega (arith, ap nat_abs (other-kept y c.args.header c.requires), y.figures.3);
     }
 
-pub overflow-add-result : goal.overflow-add-result
-overflow-add-result c =
+pub overflow_add-result : goal.overflow_add-result
+overflow_add-result c =
     let y = c.args.year.now in
     omega (arith, ap (λ xs. get_or xs 3 0) c.results-results.ensures, ap (λ (h : Header). h.common_operating_cost) c.requires, results_most (contents y), y.figures)
 
@@ -56,7 +56,7 @@ returns c =
     record {
       entry = ap (λ xs. get_or xs 0 0) e;
       exit = ap (λ xs. get_or xs 1 0) e;
-      locational = c.not_below_zero.ensures ∙ ap not_below_zero (l1-kept y c.args.header c.requires _ e _ c.l1-of-l1.ensures);
-      rest = rest-kept y c.args.header c.requires _ e _ c.l1-of-l1.ensures _ c.rest-of.ensures;
+      locational = c.not_below_zero.ensures ∙ ap not_below_zero (l1-kept y c.args.header c.requires _ e _ c.l1_of-l1.ensures);
+      rest = rest-kept y c.args.header c.requires _ e _ c.l1_of-l1.ensures _ c.rest_of.ensures;
       common = λ i. get_or (e i) 3 0 + (c.requires i).common_operating_cost;
     }
