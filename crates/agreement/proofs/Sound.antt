@@ -1,16 +1,15 @@
 -- Records that keep the limits have no fault together. Assumes nothing.
-use Rattle.std.proofs.Common.{◌≡◌, ℕ, zero, suc, ◌+◌, ◌-◌, ◌<◌, ◌≤◌, Bool, true, false, cond, not, ◌&&◌, ◌||◌, eqb, ltb, leb, List, [], ◌∷◌, length, get_or, take, Some, None, Option, sym, refl, ap, ◌∙◌, subst, arith}
+use Rattle.std.proofs.Common.{◌≡◌, ℕ, zero, suc, ◌+◌, ◌-◌, ◌<◌, ◌≤◌, true, ◌||◌, eqb, ltb, List, [], ◌∷◌, length, get_or, take, None, Option, sym, refl, ap, ◌∙◌, subst, arith}
 use Rattle.std.proofs.lemmas.List.{get_or-take, length-take-le}
 use Rattle.std.proofs.lemmas.Bool.Decides.{nat_tests}
 use Rattle.bits.specs.Laid.{◌or_else◌}
 use Rattle.bits.specs.declared.fault.Fault.{Fault}
 use Rattle.records.specs.declared.network_use.NetworkUse.{NetworkUse}
 use Rattle.records.specs.declared.point.Point.{Point}
-use Rattle.agreement.specs.Agreement.{cost_of, together_fault}
+use Rattle.agreement.specs.Agreement.{together_fault}
 use Rattle.agreement.specs.Data.{YearData}
 use Rattle.agreement.specs.Limits.{Distinct, Named, Rising}
-use Rattle.agreement.specs.Together.{free, no_point, no_use, unless, rank, repeated_at, repeated_fault, placed_at, misplaced_at, misplaced_fault, over_fault, zero_fault}
-use Rattle.agreement.specs.Totals.{total_demand, total_energy}
+use Rattle.agreement.specs.Together.{free, no_point, no_use, rank, repeated_at, repeated_fault, placed_at, misplaced_at, misplaced_fault, over_fault, zero_fault}
 use Rattle.agreement.proofs.Firsts.{none_each, passed}
 use Rattle.agreement.proofs.Keeping.{Kept}
 use Rattle.agreement.proofs.Uses.{none_overused}

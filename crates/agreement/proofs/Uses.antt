@@ -1,16 +1,15 @@
 -- The uses of each element, step by step. Assumes nothing.
-use Rattle.std.proofs.Common.{◌≡◌, ℕ, zero, suc, ◌+◌, ◌<◌, ◌≤◌, Bool, true, false, cond, eqb, leb, ◌≢◌, ◌⊎◌, List, length, get_or, take, set, replicate, Some, None, sum_by, Option, sym, refl, ap, ◌∙◌, subst, inl, inr, ⊎_elim, zero-add, arith, length-set, get_or-set_other, get_or-set_same}
+use Rattle.std.proofs.Common.{◌≡◌, ℕ, ◌+◌, ◌<◌, ◌≤◌, Bool, true, false, eqb, ◌≢◌, ◌⊎◌, List, length, get_or, take, set, replicate, Some, None, sum_by, sym, refl, ap, ◌∙◌, subst, inl, inr, ⊎_elim, zero-add, arith, length-set, get_or-set_other, get_or-set_same}
 use Rattle.std.proofs.lemmas.List.{take_all, length-replicate, get_or-replicate}
 use Rattle.std.proofs.lemmas.List.Sums.{sum_by_more, sum_by-take-le}
 use Rattle.std.proofs.lemmas.Bool.Decides.{nat_tests, eqb_tells, leb_tells}
 use Rattle.bits.specs.Faults.{year_fault}
-use Rattle.bits.specs.Laid.{◌or_else◌}
 use Rattle.bits.specs.declared.fault.Fault.{Fault}
 use Rattle.bits.specs.declared.refusal.Refusal.TheVariants.{TotalOverLimit}
 use Rattle.records.specs.declared.network_use.NetworkUse.{NetworkUse}
 use Rattle.agreement.specs.Totals.{drawn, total_use}
 use Rattle.agreement.proofs.Firsts.{first_some, none_each}
-use Rattle.agreement.specs.Together.{first_of, no_use, over_fault, overused_fault, unless}
+use Rattle.agreement.specs.Together.{no_use, over_fault, overused_fault, unless}
 
 -- the uses of each element among the first i uses, none above the limit
 pub record Used (us : List NetworkUse) (i : ℕ) (used : List ℕ) : Type 0 where

@@ -1,5 +1,5 @@
 -- The first thing that is wrong with the records of a year together.
-use Rattle.std.specs.Prelude.{ℕ, List, length, Option}
+use Rattle.std.specs.Prelude.{ℕ, length, Option}
 use Rattle.bits.specs.Laid.{◌or_else◌}
 use Rattle.bits.specs.declared.fault.Fault.{Fault}
 use Rattle.agreement.specs.Data.{YearData}

@@ -1,5 +1,5 @@
 -- What a year holds.
-use Rattle.std.specs.Prelude.{ℕ, ◌≤◌, List, [], length, pos}
+use Rattle.std.specs.Prelude.{◌≤◌, List, [], length, pos}
 use Rattle.records.specs.declared.element.Element.{Element}
 use Rattle.records.specs.declared.header.Header.{Header}
 use Rattle.records.specs.declared.network_use.NetworkUse.{NetworkUse}

@@ -1,6 +1,6 @@
 -- The limits that a checked year keeps. The empty year, which has no points, keeps them too, but for those that say
 -- otherwise.
-use Rattle.std.specs.Prelude.{◌≡◌, ℕ, ◌+◌, ◌<◌, ◌≤◌, List, length, get_or, ◌≢◌, slice_index_or}
+use Rattle.std.specs.Prelude.{ℕ, ◌+◌, ◌<◌, ◌≤◌, List, length, get_or, ◌≢◌, slice_index_or}
 use Rattle.records.specs.declared.network_use.NetworkUse.{NetworkUse}
 use Rattle.records.specs.declared.point.Point.{Point}
 use Rattle.agreement.specs.Agreement.{cost_of}

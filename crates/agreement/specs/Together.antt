@@ -1,5 +1,5 @@
 -- What is wrong with the records of a year taken together: the faults 4 to 7.
-use Rattle.std.specs.Prelude.{ℕ, zero, suc, ◌+◌, ◌-◌, ◌*◌, Bool, true, false, cond, not, ◌&&◌, ◌||◌, List, [], ◌∷◌, length, get_or, take, Some, None, Option, ◌==◌, nat_le, nat_lt, slice_index_or}
+use Rattle.std.specs.Prelude.{ℕ, zero, suc, ◌+◌, ◌-◌, ◌*◌, Bool, true, cond, not, ◌&&◌, ◌||◌, List, [], ◌∷◌, length, get_or, take, Some, None, Option, ◌==◌, nat_le, nat_lt, slice_index_or}
 use Rattle.bits.specs.Faults.{year_fault}
 use Rattle.bits.specs.Laid.{◌or_else◌}
 use Rattle.bits.specs.declared.fault.Fault.{Fault}
@@ -7,7 +7,7 @@ use Rattle.bits.specs.declared.refusal.Refusal.TheVariants.{IdentifierRepeated, 
 use Rattle.records.specs.declared.element.Element.{Element}
 use Rattle.records.specs.declared.network_use.NetworkUse.{NetworkUse}
 use Rattle.records.specs.declared.point.Point.{Point}
-use Rattle.agreement.specs.Totals.{total_cost, total_demand, total_energy, total_use}
+use Rattle.agreement.specs.Totals.{total_use}
 
 -- what stands past the end of a list
 abbrev pub no_point : Point

@@ -1,8 +1,8 @@
 -- The bounds of a price, and where they move it. Assumes nothing.
-use Rattle.std.proofs.Common.{◌≡◌, ℕ, ◌+◌, ◌-◌, ◌*◌, ◌<◌, ◌≤◌, min, max, true, cond, mul-le-mul_left, arith}
-use Rattle.std.proofs.lemmas.Bool.{and_from, cond-true, lt-ltb}
+use Rattle.std.proofs.Common.{◌≡◌, ℕ, ◌+◌, ◌-◌, ◌<◌, ◌≤◌, min, max, true, mul-le-mul_left, arith}
+use Rattle.std.proofs.lemmas.Bool.{and_from, lt-ltb}
 use Rattle.std.proofs.lemmas.Bool.Decides.{nat_tests}
-use Rattle.locational.specs.Prices.{lower_bound, upper_bound, constrained, amount_price, within_bounds, point_price, Moved}
+use Rattle.locational.specs.Prices.{lower_bound, upper_bound, constrained, within_bounds, point_price, Moved}
 
 pub bounds_order : (prior ratio : ℕ) → lower_bound prior ratio ≤ upper_bound prior ratio
 bounds_order prior ratio =

@@ -1,18 +1,16 @@
 -- What the records of a file say, and what they keep where none has a fault. Assumes nothing.
-use Rattle.std.proofs.Common.{◌≡◌, ℕ, zero, suc, ◌+◌, ◌*◌, ◌<◌, ◌≤◌, List, [], ◌∷◌, ◌++◌, map, length, get_or, drop, nat_abs, Some, None, Option, sym, refl, ap, ◌∙◌, subst, append_assoc, append-nil, arith}
+use Rattle.std.proofs.Common.{◌≡◌, ℕ, zero, suc, ◌+◌, ◌*◌, ◌<◌, ◌≤◌, List, [], ◌∷◌, ◌++◌, map, length, drop, nat_abs, None, sym, refl, ap, ◌∙◌, subst, append_assoc, append-nil, arith}
 use Rattle.std.specs.List.{AllByRecursion}
 use Rattle.std.proofs.ByRecursion.{All-get_or}
 use Rattle.std.proofs.lemmas.List.{length-map}
 use Rattle.agreement.specs.Agreement.{together_fault}
-use Rattle.agreement.specs.Data.{YearData, year_data, Few}
+use Rattle.agreement.specs.Data.{YearData, Few}
 use Rattle.agreement.specs.Limits.{Distinct, Named, Rising, Within, UsedWithin, Priced}
 use Rattle.agreement.specs.Together.{no_point, no_element}
 use Rattle.agreement.proofs.Keeping.{or_none, kept}
 use Rattle.bits.specs.Bits.{bits}
 use Rattle.bits.specs.Forms.{record_of, record_fault}
-use Rattle.bits.specs.Laid.{◌or_else◌}
 use Rattle.bits.specs.Layout.{values_in}
-use Rattle.bits.specs.declared.fault.Fault.{Fault}
 use Rattle.bits.proofs.Laws.{all_kept}
 use Rattle.records.specs.Elements.{element_of, element_fault, element_form, element_fields}
 use Rattle.records.specs.Headers.{HeaderIn, header_of, header_fault}
@@ -20,13 +18,12 @@ use Rattle.records.specs.Points.{point_of, point_fault, point_form, point_fields
 use Rattle.records.specs.Uses.{use_of, use_fault}
 use Rattle.records.specs.declared.element.Element.{Element}
 use Rattle.records.specs.declared.header.Header.{Header}
-use Rattle.records.specs.declared.network_use.NetworkUse.{NetworkUse}
 use Rattle.records.specs.declared.point.Point.{Point}
 use Rattle.year.specs.Contents.{gathered}
 use Rattle.year.specs.Ranges.{Counted, Figures, Dated, Identified, Rated, Blank}
 use Rattle.year.specs.YearFile.{year_after, year_of, first_fault}
 use Rattle.yearfile.specs.File.{length_fault, told_after}
-use Rattle.yearfile.specs.Told.{Told, a_point, an-element, a-use, parts, numbered, told_in, first_told_fault, all_in, point_in, element_in, use_in}
+use Rattle.yearfile.specs.Told.{Told, a_point, an-element, a-use, parts, numbered, first_told_fault, all_in, point_in, element_in, use_in}
 
 -- records of one kind and of others, among those told
 module _ {X : Type 0} (kind : Told → List X) where

@@ -1,20 +1,19 @@
 -- A year and its file determine each other. Assumes nothing.
-use Rattle.std.proofs.Common.{◌≡◌, ℕ, zero, suc, ◌+◌, ◌-◌, ◌*◌, ◌%◌, ◌^◌, ◌<◌, ◌≤◌, Bool, true, false, cond, eqb, ltb, leb, ◌⊎◌, List, [], ◌∷◌, ◌++◌, map, length, get_or, take, drop, ℤ, pos, negsuc, nat_abs, IfOk, Some, None, Ok, Err, sum_by, Option, Result, sym, refl, ap, ◌∙◌, subst, inl, inr, append_assoc, append-nil, arith, length-append, MatchResult}
+use Rattle.std.proofs.Common.{◌≡◌, ℕ, suc, ◌+◌, ◌-◌, ◌*◌, ◌%◌, ◌<◌, ◌≤◌, false, ltb, List, [], ◌∷◌, ◌++◌, map, length, get_or, take, drop, ℤ, pos, negsuc, nat_abs, IfOk, Some, None, Ok, Err, Option, Result, sym, refl, ap, ◌∙◌, inl, inr, append-nil, arith, length-append, MatchResult}
 use Rattle.std.specs.List.{AllByRecursion}
 use Rattle.std.proofs.ByRecursion.{All-from_get_or}
 use Rattle.std.proofs.lemmas.List.{take-append-drop, length-drop, length-take-le, drop_all, drop-drop, take_at, drop_at}
 use Rattle.std.proofs.lemmas.List.Sums.{get_or-le-sum_by}
 use Rattle.std.proofs.lemmas.Bool.Decides.{nat_tests}
 use Rattle.std.specs.Result.{result_err}
-use Rattle.agreement.specs.Agreement.{together_fault, cost_of}
-use Rattle.agreement.specs.Data.{YearData, year_data, Few}
+use Rattle.agreement.specs.Agreement.{together_fault}
+use Rattle.agreement.specs.Data.{YearData}
 use Rattle.agreement.specs.Together.{no_point, no_element, no_use}
-use Rattle.agreement.specs.Totals.{entry_cost_of, exit_cost_of, total_demand, total_energy, total_use, drawn}
+use Rattle.agreement.specs.Totals.{drawn}
 use Rattle.agreement.proofs.Keeping.{Kept, or_none}
 use Rattle.agreement.proofs.Sound.{sound}
-use Rattle.bits.specs.Forms.{Form, record_of, record_fault, record_bytes, InRange}
-use Rattle.bits.specs.Laid.{◌or_else◌}
-use Rattle.bits.specs.Layout.{signed, Keeps, extended}
+use Rattle.bits.specs.Forms.{record_of, record_fault, InRange}
+use Rattle.bits.specs.Layout.{signed, Keeps}
 use Rattle.bits.specs.Signs.{twos}
 use Rattle.bits.specs.declared.fault.Fault.{Fault}
 use Rattle.bits.proofs.Trips.{length_record, written_read, read_written}
@@ -36,7 +35,7 @@ use Rattle.year.specs.YearBytes.{bytes_of, Sound}
 use Rattle.year.specs.YearFile.{year_after, year_of, first_fault}
 use Rattle.yearfile.specs.Bytes.{all_bytes}
 use Rattle.yearfile.specs.File.{announced, length_fault, told_after}
-use Rattle.yearfile.specs.Told.{Told, a_point, an-element, a-use, parts, numbered, first_told_fault}
+use Rattle.yearfile.specs.Told.{a_point, an-element, a-use, parts, numbered, first_told_fault}
 use Rattle.yearfile.proofs.Parting.{bytes_drop, bytes_take, none_told, told_none, length_all, parts_all, past_all, read_back, none_back, write_back}
 
 -- a number near zero, in two's complement, keeps its range

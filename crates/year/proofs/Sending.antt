@@ -1,10 +1,9 @@
 -- A year's file laid into a buffer part by part. Assumes nothing.
-use Rattle.std.proofs.Common.{◌≡◌, ℕ, ◌+◌, ◌*◌, ◌<◌, ◌≤◌, Bool, true, false, cond, eqb, ltb, List, [], ◌∷◌, ◌++◌, length, drop, Some, None, Option, sym, refl, ap, ◌∙◌, subst, append_assoc, zero-add, arith, length-append}
+use Rattle.std.proofs.Common.{◌≡◌, ℕ, ◌+◌, ◌*◌, ◌<◌, ◌≤◌, true, false, eqb, ltb, List, ◌++◌, length, drop, Some, None, sym, ap, ◌∙◌, append_assoc, zero-add, arith, length-append}
 use Rattle.std.proofs.lemmas.Bool.Decides.{nat_tests}
-use Rattle.agreement.specs.Data.{YearData, year_data}
+use Rattle.agreement.specs.Data.{YearData}
 use Rattle.bits.specs.Laid.{over}
 use Rattle.bits.proofs.Trips.{length_record}
-use Rattle.bits.specs.declared.refusal.Refusal.{Refusal}
 use Rattle.bits.specs.declared.refusal.Refusal.TheVariants.{BufferShort}
 use Rattle.records.specs.Elements.{element_bytes, element_form}
 use Rattle.records.specs.Headers.{header_bytes, header_form}

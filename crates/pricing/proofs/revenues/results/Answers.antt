@@ -1,8 +1,7 @@
-use Rattle.std.proofs.Common.{◌≡◌, ℕ, ◌-◌, List, [], ◌∷◌, ap, ◌∙◌}
+use Rattle.std.proofs.Common.{ℕ, ◌-◌, List, [], ◌∷◌, ap, ◌∙◌}
 use Rattle.agreement.specs.Totals.{entry_cost_of, exit_cost_of, network_cost}
 use Rattle.money.specs.Sharing.{shares_of}
 use Rattle.records.specs.declared.header.Header.{Header}
-use Rattle.year.specs.Holds.{contents}
 use Rattle.pricing.specs.Revenues.{results}
 use Rattle.pricing.proofs.revenues.results.Goals as goal
 

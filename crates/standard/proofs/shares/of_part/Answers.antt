@@ -2,7 +2,7 @@ use Rattle.std.proofs.Common.{ℕ, ◌+◌, refl, arith}
 use Rattle.agreement.specs.Together.{no_use}
 use Rattle.records.specs.declared.network_use.NetworkUse.{NetworkUse}
 use Rattle.standard.specs.Exchange.{part_has}
-use Rattle.standard.proofs.Leaving.{left, left_own, left_other, left_none, left_all}
+use Rattle.standard.proofs.Leaving.{left_own, left_other, left_none, left_all}
 use Rattle.standard.proofs.Totalling.{total_more, total_front}
 use Rattle.standard.proofs.shares.of_part.Goals as goal
 use Rattle.standard.proofs.shares.of_part.Goals.{then-item-place, else-item-place}

@@ -1,4 +1,4 @@
-use Rattle.std.proofs.Common.{ℕ, refl, arith}
+use Rattle.std.proofs.Common.{refl, arith}
 use Rattle.agreement.specs.Together.{no_point}
 use Rattle.records.specs.declared.point.Point.{Point}
 use Rattle.pricing.proofs.Filling.{column_more, column_all}

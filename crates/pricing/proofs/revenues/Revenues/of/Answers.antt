@@ -1,4 +1,4 @@
-use Rattle.std.proofs.Common.{◌≡◌, ℕ, ◌+◌, ◌-◌, ◌/◌, ◌≤◌, List, get_or, ℤ, nat_abs, ap, ◌∙◌, arith, lit<, w64, to_z, of_z}
+use Rattle.std.proofs.Common.{◌≡◌, ℕ, ◌+◌, ◌-◌, ◌/◌, List, get_or, ℤ, nat_abs, ap, ◌∙◌, arith, lit<, w64, to_z, of_z}
 use Rattle.records.specs.declared.header.Header.{Header}
 use Rattle.year.specs.Holds.{contents}
 use Rattle.year.specs.declared.year.Year.{Year}

@@ -1,8 +1,8 @@
-use Rattle.std.proofs.Common.{◌≡◌, ◌<◌, length, vec_items, sym, refl, ap, ◌∙◌, subst, append-nil, arith}
+use Rattle.std.proofs.Common.{◌<◌, length, vec_items, sym, refl, ap, ◌∙◌, subst, append-nil, arith}
 use Rattle.std.proofs.lemmas.Result.{err_from_is_err_and}
 use Rattle.agreement.specs.Data.{Few}
 use Rattle.year.specs.Contents.{gathered}
-use Rattle.year.proofs.Filling.{start, turn, stop, whole, room_points, room_elements, room_uses, case_told, one_more}
+use Rattle.year.proofs.Filling.{turn, stop, whole, room_points, room_elements, room_uses, case_told, one_more}
 use Rattle.year.proofs.lists.Lists.fill.Goals as goal
 use Rattle.yearfile.specs.Told.{to_come, first_told_fault}
 use Rattle.yearfile.specs.declared.stream.Records.{Records}
