@@ -9,23 +9,23 @@ use Rattle.records.specs.declared.point.Point.{Point}
 use Rattle.agreement.specs.Agreement.{cost_of, together_fault}
 use Rattle.agreement.specs.Data.{YearData}
 use Rattle.agreement.specs.Limits.{Distinct, Named, Rising, Within, UsedWithin, Priced}
-use Rattle.agreement.specs.Together.{first_of, free, no_point, no_use, unless, rank, repeated_at, repeated_fault, placed_at, misplaced_at, misplaced_fault, over_fault, overused_fault, zero_fault}
+use Rattle.agreement.specs.Together.{first_fault_among, free, no_point, no_use, unless, rank, repeated_at, repeated_fault, placed_at, misplaced_at, misplaced_fault, over_fault, overused_fault, zero_fault}
 use Rattle.agreement.specs.Totals.{total_demand, total_energy, total_use}
 
 pub or_none : (f g : Option Fault) → None ≡ (f or_else g) → (None ≡ f) × (None ≡ g)
 or_none None g h = (refl, h)
 or_none (Some f) g h = (h, grind arith)
 
-none_at : (n i k : ℕ) (fault-at : ℕ → Option Fault) → None ≡ first_of n i fault-at → k < n → None ≡ fault-at (i + k)
-unfolding first_of
-none_at zero i k fault-at h l = absurd (omega arith)
-none_at (suc n) i zero fault-at h l = rw add-zero (or_none (fault-at i) (first_of n (suc i) fault-at) h).0
-none_at (suc n) i (suc k) fault-at h l =
+none_at : (n i k : ℕ) (fault_at : ℕ → Option Fault) → None ≡ first_fault_among n i fault_at → k < n → None ≡ fault_at (i + k)
+unfolding first_fault_among
+none_at zero i k fault_at h l = absurd (omega arith)
+none_at (suc n) i zero fault_at h l = rw add-zero (or_none (fault_at i) (first_fault_among n (suc i) fault_at) h).0
+none_at (suc n) i (suc k) fault_at h l =
     let e : i + suc k ≡ suc i + k = omega arith in
-    rw e (none_at n (suc i) k fault-at (or_none (fault-at i) (first_of n (suc i) fault-at) h).1 (omega arith))
+    rw e (none_at n (suc i) k fault_at (or_none (fault_at i) (first_fault_among n (suc i) fault_at) h).1 (omega arith))
 
-none_from : (n k : ℕ) (fault-at : ℕ → Option Fault) → None ≡ first_of n 0 fault-at → k < n → None ≡ fault-at k
-none_from n k fault-at h l = none_at n 0 k fault-at h l ∙ ap fault-at (zero-add k)
+none_from : (n k : ℕ) (fault_at : ℕ → Option Fault) → None ≡ first_fault_among n 0 fault_at → k < n → None ≡ fault_at k
+none_from n k fault_at h l = none_at n 0 k fault_at h l ∙ ap fault_at (zero-add k)
 
 passes : {test : Bool} (x : Fault) → None ≡ unless test x → test ≡ true
 passes {test} x h = grind arith

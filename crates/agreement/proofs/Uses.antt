@@ -35,7 +35,7 @@ module _ (us : List NetworkUse) (i : ℕ) (used : List ℕ) (so : Used us i used
   used_more total k t limit = record {
     long = simp length-set so.long;
     totals = λ e l. ⊎_elim (at_own e l) (at_other e l) (eqb_tells e this.element);
-    small = λ e l. ⊎_elim (small-own e l) (small-other e l) (eqb_tells e this.element);
+    small = λ e l. ⊎_elim (small_own e l) (small_other e l) (eqb_tells e this.element);
   }
     where
       inside : this.element < length used
@@ -49,11 +49,11 @@ module _ (us : List NetworkUse) (i : ℕ) (used : List ℕ) (so : Used us i used
           let ne : e ≢ this.element = q.1 in
           rw get_or-set_other (omega (arith, so.totals e l, sum_by_more (drawn e) us i no_use h, other e q.1))
 
-      small-own : (e : ℕ) → e < 256 → (eqb e this.element ≡ true) × (e ≡ this.element) → get_or (set used this.element total) e 0 ≤ 10000000
-      small-own e l q = let g = get_or-set_same used this.element total 0 inside in subst (λ (j : ℕ). get_or (set used this.element total) j 0 ≤ 10000000) (sym q.1) (omega (arith, g))
+      small_own : (e : ℕ) → e < 256 → (eqb e this.element ≡ true) × (e ≡ this.element) → get_or (set used this.element total) e 0 ≤ 10000000
+      small_own e l q = let g = get_or-set_same used this.element total 0 inside in subst (λ (j : ℕ). get_or (set used this.element total) j 0 ≤ 10000000) (sym q.1) (omega (arith, g))
 
-      small-other : (e : ℕ) → e < 256 → (eqb e this.element ≡ false) × (e ≡ this.element → ⊥) → get_or (set used this.element total) e 0 ≤ 10000000
-      small-other e l q = let ne : e ≢ this.element = q.1 in rw get_or-set_other (so.small e l)
+      small_other : (e : ℕ) → e < 256 → (eqb e this.element ≡ false) × (e ≡ this.element → ⊥) → get_or (set used this.element total) e 0 ≤ 10000000
+      small_other e l q = let ne : e ≢ this.element = q.1 in rw get_or-set_other (so.small e l)
 
 pub used_none : (us : List NetworkUse) → Used us 0 (replicate 256 0)
 used_none us = record { long = length-replicate {A = ℕ} 256 0; totals = λ e l. get_or-replicate {A = ℕ} 256 e 0 0 l; small = λ e l. omega (arith, get_or-replicate {A = ℕ} 256 e 0 0 l) }

@@ -1,6 +1,6 @@
 -- The limits that a checked year keeps. The empty year, which has no points, keeps them too, but for those that say
 -- otherwise.
-use Rattle.std.specs.Prelude.{ℕ, ◌+◌, ◌<◌, ◌≤◌, List, length, get_or, ◌≢◌, slice_index_or}
+use Rattle.std.specs.Prelude.{ℕ, ◌+◌, ◌<◌, ◌≤◌, List, length, ◌≢◌, slice_index_or}
 use Rattle.records.specs.declared.network_use.NetworkUse.{NetworkUse}
 use Rattle.records.specs.declared.point.Point.{Point}
 use Rattle.agreement.specs.Agreement.{cost_of}
@@ -10,11 +10,11 @@ use Rattle.agreement.specs.Totals.{total_demand, total_energy, total_use}
 
 -- no identifier is that of an earlier point
 abbrev pub Distinct : List Point → Type 0
-Distinct ps = (i j : ℕ) → i < j → j < length ps → (get_or ps i no_point).identifier ≢ (get_or ps j no_point).identifier
+Distinct ps = (i j : ℕ) → i < j → j < length ps → (slice_index_or ps i no_point).identifier ≢ (slice_index_or ps j no_point).identifier
 
 -- each use names an element and a point that are there
 abbrev pub Named : YearData → Type 0
-Named d = (k : ℕ) → k < length d.uses → ((get_or d.uses k no_use).element < length d.elements) × ((get_or d.uses k no_use).point < length d.points)
+Named d = (k : ℕ) → k < length d.uses → ((slice_index_or d.uses k no_use).element < length d.elements) × ((slice_index_or d.uses k no_use).point < length d.points)
 
 -- the uses rise strictly, by element and then by point
 abbrev pub Rising : List NetworkUse → Type 0

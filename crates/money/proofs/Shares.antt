@@ -21,27 +21,27 @@ sum-cons x xs = sum_by-cons (λ n. n) x xs
 
 module _ (amount total : ℕ) where
   -- what goes to the items before and to the item itself goes to both
-  share-adds : (before weight : ℕ) → amount * before / total + share_of amount before weight total ≡ amount * (before + weight) / total
-  share-adds before weight = omega (arith, div_mono (amount * before) (amount * (before + weight)) total (mul-le-mul_left amount (omega arith)))
+  share_adds : (before weight : ℕ) → amount * before / total + share_of amount before weight total ≡ amount * (before + weight) / total
+  share_adds before weight = omega (arith, div_mono (amount * before) (amount * (before + weight)) total (mul-le-mul_left amount (omega arith)))
 
   length-after : (before : ℕ) (ws : List ℕ) → length (shares_after amount total before ws) ≡ length ws
   length-after before [] = refl
   length-after before (w ∷ ws) = ap suc (length-after (before + w) ws)
 
-  sum-after : (before : ℕ) (ws : List ℕ) → amount * before / total + sum (shares_after amount total before ws) ≡ amount * (before + sum ws) / total
-  sum-after before [] = rw (add-zero before) (omega arith)
-  sum-after before (w ∷ ws) =
+  sum_after : (before : ℕ) (ws : List ℕ) → amount * before / total + sum (shares_after amount total before ws) ≡ amount * (before + sum ws) / total
+  sum_after before [] = rw (add-zero before) (omega arith)
+  sum_after before (w ∷ ws) =
       let e : before + sum (w ∷ ws) ≡ before + w + sum ws = omega (arith, sum-cons w ws) in
       ap (λ (n : ℕ). amount * before / total + n) (sum-cons (share_of amount before w total) (shares_after amount total (before + w) ws))
-      ∙ (omega (arith, share-adds before w) ∙ sum-after (before + w) ws)
+      ∙ (omega (arith, share_adds before w) ∙ sum_after (before + w) ws)
       ∙ sym (ap (λ (n : ℕ). amount * n / total) e)
 
-  share-of-nothing : (before : ℕ) → share_of amount before 0 total ≡ 0
-  share-of-nothing before = rw (add-zero before) (omega arith)
+  share_of_nothing : (before : ℕ) → share_of amount before 0 total ≡ 0
+  share_of_nothing before = rw (add-zero before) (omega arith)
 
   at_after : (before : ℕ) (ws : List ℕ) (j : ℕ) → get_or (shares_after amount total before ws) j 0 ≡ share_of amount (before + sum (take j ws)) (get_or ws j 0) total
-  at_after before [] zero = sym (share-of-nothing (before + 0))
-  at_after before [] (suc j) = sym (share-of-nothing (before + 0))
+  at_after before [] zero = sym (share_of_nothing (before + 0))
+  at_after before [] (suc j) = sym (share_of_nothing (before + 0))
   at_after before (w ∷ ws) zero = rw (add-zero before)
   at_after before (w ∷ ws) (suc j) =
       let e : before + sum (w ∷ take j ws) ≡ before + w + sum (take j ws) = omega (arith, sum-cons w (take j ws)) in
@@ -51,7 +51,7 @@ module _ (amount : ℕ) (ws : List ℕ) where
   sum_is : sum (shares_of amount ws) ≡ amount * sum ws / sum ws
   unfolding shares_of
   sum_is =
-      let e = sum-after amount (sum ws) 0 ws in
+      let e = sum_after amount (sum ws) 0 ws in
       let z : amount * 0 / sum ws ≡ 0 = rw (mul-zero amount) (zero-div (sum ws)) in
       let f = ap (λ (n : ℕ). amount * n / sum ws) (zero-add (sum ws)) in
       omega arith

@@ -27,17 +27,17 @@ module _ (n : ℕ) where
       (cases_eq u.element e)
 
   -- past the last point there is nothing
-  past-point : (p : ℕ) (us : List NetworkUse) (shares : List ℕ) → n ≤ p → Placed n us → at_point p us shares ≡ 0
-  past-point p [] shares h so = refl
-  past-point p (u ∷ us) [] h so = refl
-  past-point p (u ∷ us) (x ∷ xs) h so =
-      omega (arith, cond-false (eqb u.point p) x 0 (ne_eqb u.point p (λ e. omega (arith, so.0))), past-point p us xs h so.1)
+  past_point : (p : ℕ) (us : List NetworkUse) (shares : List ℕ) → n ≤ p → Placed n us → at_point p us shares ≡ 0
+  past_point p [] shares h so = refl
+  past_point p (u ∷ us) [] h so = refl
+  past_point p (u ∷ us) (x ∷ xs) h so =
+      omega (arith, cond-false (eqb u.point p) x 0 (ne_eqb u.point p (λ e. omega (arith, so.0))), past_point p us xs h so.1)
 
   pub past_points : (uses : List NetworkUse) (p e : ℕ) (parts : List ℕ) → n ≤ p → Placed n uses → of_parts uses p e parts ≡ 0
   past_points uses p e [] h so = refl
   past_points uses p e (part ∷ parts) h so =
       let us = uses_of e uses in
-      omega (arith, past-point p us (shares_of part (demands us)) h (placed_of e uses so), past_points uses p (e + 1) parts h so)
+      omega (arith, past_point p us (shares_of part (demands us)) h (placed_of e uses so), past_points uses p (e + 1) parts h so)
 
 pub placed_more : (m n : ℕ) (us : List NetworkUse) → m ≤ n → Placed m us → Placed n us
 placed_more m n [] h so = tt

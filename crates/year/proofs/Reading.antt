@@ -23,7 +23,7 @@ use Rattle.year.specs.Contents.{gathered}
 use Rattle.year.specs.Ranges.{Counted, Figures, Dated, Identified, Rated, Blank}
 use Rattle.year.specs.YearFile.{year_after, year_of, first_fault}
 use Rattle.yearfile.specs.File.{length_fault, told_after}
-use Rattle.yearfile.specs.Told.{Told, a_point, an-element, a-use, parts, numbered, first_told_fault, all_in, point_in, element_in, use_in}
+use Rattle.yearfile.specs.Told.{Told, a_point, an_element, a_use, parts, numbered, first_told_fault, all_in, point_in, element_in, use_in}
 
 -- records of one kind and of others, among those told
 module _ {X : Type 0} (kind : Told → List X) where
@@ -52,14 +52,14 @@ gathers h rest =
     let es = parts 9 h.elements (drop (15 * h.points) rest) in
     let us = parts 5 h.uses (drop (15 * h.points + 9 * h.elements) rest) in
     let p = numbered a_point 0 ps in
-    let e = numbered an-element (0 + h.points) es in
-    let u = numbered a-use (0 + h.points + h.elements) us in
+    let e = numbered an_element (0 + h.points) es in
+    let u = numbered a_use (0 + h.points + h.elements) us in
     let points : all_in point_in (p ++ (e ++ u)) ≡ map point_of ps =
-    three point_in p e u ∙ (rw (own point_in a_point point_of (λ b n. refl) 0 ps, other point_in an-element (λ b n. refl) (0 + h.points) es, other point_in a-use (λ b n. refl) (0 + h.points + h.elements) us) (append-nil (map point_of ps))) in
+    three point_in p e u ∙ (rw (own point_in a_point point_of (λ b n. refl) 0 ps, other point_in an_element (λ b n. refl) (0 + h.points) es, other point_in a_use (λ b n. refl) (0 + h.points + h.elements) us) (append-nil (map point_of ps))) in
     let elements : all_in element_in (p ++ (e ++ u)) ≡ map element_of es =
-    three element_in p e u ∙ (rw (other element_in a_point (λ b n. refl) 0 ps, own element_in an-element element_of (λ b n. refl) (0 + h.points) es, other element_in a-use (λ b n. refl) (0 + h.points + h.elements) us) (append-nil (map element_of es))) in
+    three element_in p e u ∙ (rw (other element_in a_point (λ b n. refl) 0 ps, own element_in an_element element_of (λ b n. refl) (0 + h.points) es, other element_in a_use (λ b n. refl) (0 + h.points + h.elements) us) (append-nil (map element_of es))) in
     let uses : all_in use_in (p ++ (e ++ u)) ≡ map use_of us =
-    three use_in p e u ∙ (rw (other use_in a_point (λ b n. refl) 0 ps, other use_in an-element (λ b n. refl) (0 + h.points) es, own use_in a-use use_of (λ b n. refl) (0 + h.points + h.elements) us) refl) in
+    three use_in p e u ∙ (rw (other use_in a_point (λ b n. refl) 0 ps, other use_in an_element (λ b n. refl) (0 + h.points) es, own use_in a_use use_of (λ b n. refl) (0 + h.points + h.elements) us) refl) in
     rw (points, elements, uses)
 
 length-parts : (size n : ℕ) (bs : List ℕ) → length (parts size n bs) ≡ n
@@ -121,11 +121,11 @@ all_keep (a_point bs n ∷ ts) h =
     let o = or_none (point_fault (n + 1) bs) _ h in
     let r = all_keep ts o.1 in
     ((point_kept (n + 1) bs o.0, r.0), r.1)
-all_keep (an-element bs n ∷ ts) h =
+all_keep (an_element bs n ∷ ts) h =
     let o = or_none (element_fault (n + 1) bs) _ h in
     let r = all_keep ts o.1 in
     (r.0, (element_kept (n + 1) bs o.0, r.1))
-all_keep (a-use bs n ∷ ts) h = all_keep ts (or_none (use_fault (n + 1) bs) _ h).1
+all_keep (a_use bs n ∷ ts) h = all_keep ts (or_none (use_fault (n + 1) bs) _ h).1
 
 -- what the struct of a checked year asks, in its order
 pub record Limits (d : YearData) : Type 0 where

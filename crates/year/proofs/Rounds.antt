@@ -31,11 +31,11 @@ use Rattle.records.proofs.HeaderLaws.{header_lawful}
 use Rattle.records.proofs.PointLaws.{point_lawful}
 use Rattle.records.proofs.UseLaws.{use_lawful}
 use Rattle.year.proofs.Reading.{counts, ranges, limits}
-use Rattle.year.specs.YearBytes.{bytes_of, Sound}
+use Rattle.year.specs.YearBytes.{year_bytes, Sound}
 use Rattle.year.specs.YearFile.{year_after, year_of, first_fault}
 use Rattle.yearfile.specs.Bytes.{all_bytes}
 use Rattle.yearfile.specs.File.{announced, length_fault, told_after}
-use Rattle.yearfile.specs.Told.{a_point, an-element, a-use, parts, numbered, first_told_fault}
+use Rattle.yearfile.specs.Told.{a_point, an_element, a_use, parts, numbered, first_told_fault}
 use Rattle.yearfile.proofs.Parting.{bytes_drop, bytes_take, none_told, told_none, length_all, parts_all, past_all, read_back, none_back, write_back}
 
 -- a number near zero, in two's complement, keeps its range
@@ -147,60 +147,60 @@ module _ (d : YearData) (so : Sound d) where
   abbrev us : List NetworkUse
   us = d.uses
 
-  header-ranged : InRange header_form h
+  header_ranged : InRange header_form h
   unfolding header_form
-  header-ranged = header_in d so
+  header_ranged = header_in d so
 
-  points-ranged : AllByRecursion (InRange point_form) ps
+  points_ranged : AllByRecursion (InRange point_form) ps
   unfolding point_form
-  points-ranged = ranged ps (λ x k. (k, tt)) (points_in d so)
+  points_ranged = ranged ps (λ x k. (k, tt)) (points_in d so)
 
-  elements-ranged : AllByRecursion (InRange element_form) es
+  elements_ranged : AllByRecursion (InRange element_form) es
   unfolding element_form
-  elements-ranged = ranged es (λ x k. (k, tt)) (elements_in d so)
+  elements_ranged = ranged es (λ x k. (k, tt)) (elements_in d so)
 
-  uses-ranged : AllByRecursion (InRange use_form) us
+  uses_ranged : AllByRecursion (InRange use_form) us
   unfolding use_form
-  uses-ranged = ranged us (λ x k. (k, tt)) (uses_in d so)
+  uses_ranged = ranged us (λ x k. (k, tt)) (uses_in d so)
 
-  point-parts : parts 15 h.points (body d) ≡ map point_bytes ps
+  point_parts : parts 15 h.points (body d) ≡ map point_bytes ps
   unfolding point_form
-  point-parts = ap (λ (n : ℕ). parts 15 n (body d)) so.counted.0 ∙ parts_all point_form ps (all_bytes element_bytes es ++ all_bytes use_bytes us)
+  point_parts = ap (λ (n : ℕ). parts 15 n (body d)) so.counted.0 ∙ parts_all point_form ps (all_bytes element_bytes es ++ all_bytes use_bytes us)
 
   past_points : drop (15 * h.points) (body d) ≡ all_bytes element_bytes es ++ all_bytes use_bytes us
   unfolding point_form
   past_points = ap (λ (n : ℕ). drop (15 * n) (body d)) so.counted.0 ∙ past_all point_form ps (all_bytes element_bytes es ++ all_bytes use_bytes us)
 
-  element-parts : parts 9 h.elements (drop (15 * h.points) (body d)) ≡ map element_bytes es
+  element_parts : parts 9 h.elements (drop (15 * h.points) (body d)) ≡ map element_bytes es
   unfolding element_form
-  element-parts =
+  element_parts =
       ap (parts 9 h.elements) past_points
       ∙ (ap (λ (n : ℕ). parts 9 n (all_bytes element_bytes es ++ all_bytes use_bytes us)) so.counted.1 ∙ parts_all element_form es (all_bytes use_bytes us))
 
-  past-elements : drop (15 * h.points + 9 * h.elements) (body d) ≡ all_bytes use_bytes us
+  past_elements : drop (15 * h.points + 9 * h.elements) (body d) ≡ all_bytes use_bytes us
   unfolding element_form
-  past-elements =
+  past_elements =
       sym (drop-drop (9 * h.elements) (15 * h.points) (body d))
       ∙ (ap (drop (9 * h.elements)) past_points
       ∙ (ap (λ (n : ℕ). drop (9 * n) (all_bytes element_bytes es ++ all_bytes use_bytes us)) so.counted.1 ∙ past_all element_form es (all_bytes use_bytes us)))
 
-  use-parts : parts 5 h.uses (drop (15 * h.points + 9 * h.elements) (body d)) ≡ map use_bytes us
+  use_parts : parts 5 h.uses (drop (15 * h.points + 9 * h.elements) (body d)) ≡ map use_bytes us
   unfolding use_form
-  use-parts =
-      ap (parts 5 h.uses) past-elements
+  use_parts =
+      ap (parts 5 h.uses) past_elements
       ∙ (ap (λ (n : ℕ). parts 5 n (all_bytes use_bytes us)) so.counted.2
       ∙ (ap (parts 5 (length us)) (sym (append-nil (all_bytes use_bytes us))) ∙ parts_all use_form us []))
 
-  year-back : year_after h (body d) ≡ d
-  year-back = rw (point-parts, element-parts, use-parts, read_back point_form point_lawful ps points-ranged, read_back element_form element_lawful es elements-ranged, read_back use_form use_lawful us uses-ranged)
+  year_back : year_after h (body d) ≡ d
+  year_back = rw (point_parts, element_parts, use_parts, read_back point_form point_lawful ps points_ranged, read_back element_form element_lawful es elements_ranged, read_back use_form use_lawful us uses_ranged)
 
   told_back : first_told_fault (told_after h (body d)) ≡ None
   unfolding first_told_fault
   told_back =
-      rw (point-parts, element-parts, use-parts)
-      (none_told a_point 0 (map point_bytes ps) _ (none_back point_form point_lawful ps points-ranged)
-      ∙ (none_told an-element (0 + h.points) (map element_bytes es) _ (none_back element_form element_lawful es elements-ranged)
-      ∙ (ap first_told_fault (sym (append-nil (numbered a-use (0 + h.points + h.elements) (map use_bytes us)))) ∙ none_told a-use (0 + h.points + h.elements) (map use_bytes us) [] (none_back use_form use_lawful us uses-ranged))))
+      rw (point_parts, element_parts, use_parts)
+      (none_told a_point 0 (map point_bytes ps) _ (none_back point_form point_lawful ps points_ranged)
+      ∙ (none_told an_element (0 + h.points) (map element_bytes es) _ (none_back element_form element_lawful es elements_ranged)
+      ∙ (ap first_told_fault (sym (append-nil (numbered a_use (0 + h.points + h.elements) (map use_bytes us)))) ∙ none_told a_use (0 + h.points + h.elements) (map use_bytes us) [] (none_back use_form use_lawful us uses_ranged))))
 
   length-body : length (body d) ≡ announced h
   unfolding point_form element_form use_form
@@ -213,34 +213,34 @@ module _ (d : YearData) (so : Sound d) where
   unfolding header_form
   length-head = length_record header_form h
 
-  head : take 27 (bytes_of d) ≡ header_bytes h
+  head : take 27 (year_bytes d) ≡ header_bytes h
   head = take_at (header_bytes h) (body d) 27 length-head
 
-  after : drop 27 (bytes_of d) ≡ body d
+  after : drop 27 (year_bytes d) ≡ body d
   after = drop_at (header_bytes h) (body d) 27 length-head
 
-  header-back : header_of (bytes_of d) ≡ h
-  header-back = ap (record_of header_form) head ∙ (written_read header_form header_lawful 0 h header-ranged).1
+  header_back : header_of (year_bytes d) ≡ h
+  header_back = ap (record_of header_form) head ∙ (written_read header_form header_lawful 0 h header_ranged).1
 
-  header-fine : header_fault (bytes_of d) ≡ None
-  header-fine =
-      let long : 27 ≤ length (bytes_of d) = simp length-append (omega (arith, length-head)) in
-      let f : record_fault header_form 0 (take 27 (bytes_of d)) ≡ None = ap (record_fault header_form 0) head ∙ (written_read header_form header_lawful 0 h header-ranged).0 in
-      let t : ltb (length (bytes_of d)) 27 ≡ false = grind (arith, nat_tests) in
+  header_fine : header_fault (year_bytes d) ≡ None
+  header_fine =
+      let long : 27 ≤ length (year_bytes d) = simp length-append (omega (arith, length-head)) in
+      let f : record_fault header_form 0 (take 27 (year_bytes d)) ≡ None = ap (record_fault header_form 0) head ∙ (written_read header_form header_lawful 0 h header_ranged).0 in
+      let t : ltb (length (year_bytes d)) 27 ≡ false = grind (arith, nat_tests) in
       rw (t, f)
 
   kept : Kept d
   kept = record { distinct = so.distinct; named = so.named; rising = so.rising; within = so.within; used = so.used; priced = so.priced }
 
   -- what a sound year writes is read back as the same year, without a fault
-  pub written_then_read : (None ≡ first_fault (bytes_of d)) × (year_of (bytes_of d) ≡ d)
+  pub written_then_read : (None ≡ first_fault (year_bytes d)) × (year_of (year_bytes d) ≡ d)
   written_then_read =
-      let y : year_of (bytes_of d) ≡ d = ap (λ (x : Header). year_after x (drop 27 (bytes_of d))) header-back ∙ (ap (year_after h) after ∙ year-back) in
-      let l : length_fault (header_of (bytes_of d)) (drop 27 (bytes_of d)) ≡ None = ap (λ (x : Header). length_fault x (drop 27 (bytes_of d))) header-back ∙ (ap (length_fault h) after ∙ length_back) in
-      let t : first_told_fault (told_after (header_of (bytes_of d)) (drop 27 (bytes_of d))) ≡ None =
-      ap (λ (x : Header). first_told_fault (told_after x (drop 27 (bytes_of d)))) header-back ∙ (ap (λ (bs : List ℕ). first_told_fault (told_after h bs)) after ∙ told_back) in
-      let a : together_fault (year_of (bytes_of d)) ≡ None = ap together_fault y ∙ sound d so.some kept in
-      (sym (rw (header-fine, l, t) a), y)
+      let y : year_of (year_bytes d) ≡ d = ap (λ (x : Header). year_after x (drop 27 (year_bytes d))) header_back ∙ (ap (year_after h) after ∙ year_back) in
+      let l : length_fault (header_of (year_bytes d)) (drop 27 (year_bytes d)) ≡ None = ap (λ (x : Header). length_fault x (drop 27 (year_bytes d))) header_back ∙ (ap (length_fault h) after ∙ length_back) in
+      let t : first_told_fault (told_after (header_of (year_bytes d)) (drop 27 (year_bytes d))) ≡ None =
+      ap (λ (x : Header). first_told_fault (told_after x (drop 27 (year_bytes d)))) header_back ∙ (ap (λ (bs : List ℕ). first_told_fault (told_after h bs)) after ∙ told_back) in
+      let a : together_fault (year_of (year_bytes d)) ≡ None = ap together_fault y ∙ sound d so.some kept in
+      (sym (rw (header_fine, l, t) a), y)
 
 -- a file without a fault is what its year writes
 module _ (file : List ℕ) (bytes : Bytes file) (fine : None ≡ first_fault file) where
@@ -256,22 +256,22 @@ module _ (file : List ℕ) (bytes : Bytes file) (fine : None ≡ first_fault fil
   abbrev last : List ℕ
   last = drop (15 * hd.points + 9 * hd.elements) rest
 
-  header-none : None ≡ header_fault file
-  header-none = (or_none (header_fault file) _ fine).0
+  header_none : None ≡ header_fault file
+  header_none = (or_none (header_fault file) _ fine).0
 
   length_none : None ≡ length_fault hd rest
   length_none = (or_none (length_fault hd rest) _ (or_none (header_fault file) _ fine).1).0
 
-  records-none : None ≡ first_told_fault (told_after hd rest)
-  records-none = (or_none (first_told_fault (told_after hd rest)) _ (or_none (length_fault hd rest) _ (or_none (header_fault file) _ fine).1).1).0
+  records_none : None ≡ first_told_fault (told_after hd rest)
+  records_none = (or_none (first_told_fault (told_after hd rest)) _ (or_none (length_fault hd rest) _ (or_none (header_fault file) _ fine).1).1).0
 
   long : 27 ≤ length file
-  long = let n = header-none in grind (arith, nat_tests)
+  long = let n = header_none in grind (arith, nat_tests)
 
-  head-is : take 27 file ≡ header_bytes hd
+  head_is : take 27 file ≡ header_bytes hd
   unfolding header_form
-  head-is =
-      let n = header-none in
+  head_is =
+      let n = header_none in
       let l = long in
       let t : ltb (length file) 27 ≡ false = grind (arith, nat_tests) in
       let f : None ≡ record_fault header_form 0 (take 27 file) = rw t at n in
@@ -280,63 +280,63 @@ module _ (file : List ℕ) (bytes : Bytes file) (fine : None ≡ first_fault fil
   length_rest : length rest ≡ announced hd
   length_rest = let n = length_none in grind (arith, nat_tests)
 
-  rest-bytes : Bytes rest
-  rest-bytes = bytes_drop 27 file bytes
+  rest_bytes : Bytes rest
+  rest_bytes = bytes_drop 27 file bytes
 
-  points_none : AllByRecursion (λ b. (k : ℕ) × (None ≡ point_fault (k + 1) b)) (parts 15 hd.points rest) × (None ≡ first_told_fault (numbered an-element (0 + hd.points) (parts 9 hd.elements mid) ++ numbered a-use (0 + hd.points + hd.elements) (parts 5 hd.uses last)))
-  points_none = told_none a_point 0 (parts 15 hd.points rest) _ records-none
+  points_none : AllByRecursion (λ b. (k : ℕ) × (None ≡ point_fault (k + 1) b)) (parts 15 hd.points rest) × (None ≡ first_told_fault (numbered an_element (0 + hd.points) (parts 9 hd.elements mid) ++ numbered a_use (0 + hd.points + hd.elements) (parts 5 hd.uses last)))
+  points_none = told_none a_point 0 (parts 15 hd.points rest) _ records_none
 
-  elements-none : AllByRecursion (λ b. (k : ℕ) × (None ≡ element_fault (k + 1) b)) (parts 9 hd.elements mid) × (None ≡ first_told_fault (numbered a-use (0 + hd.points + hd.elements) (parts 5 hd.uses last)))
-  elements-none = told_none an-element (0 + hd.points) (parts 9 hd.elements mid) _ points_none.1
+  elements_none : AllByRecursion (λ b. (k : ℕ) × (None ≡ element_fault (k + 1) b)) (parts 9 hd.elements mid) × (None ≡ first_told_fault (numbered a_use (0 + hd.points + hd.elements) (parts 5 hd.uses last)))
+  elements_none = told_none an_element (0 + hd.points) (parts 9 hd.elements mid) _ points_none.1
 
-  uses-none : AllByRecursion (λ b. (k : ℕ) × (None ≡ use_fault (k + 1) b)) (parts 5 hd.uses last)
-  uses-none =
-      let n = elements-none.1 ∙ ap first_told_fault (sym (append-nil (numbered a-use (0 + hd.points + hd.elements) (parts 5 hd.uses last)))) in
-      (told_none a-use (0 + hd.points + hd.elements) (parts 5 hd.uses last) [] n).0
+  uses_none : AllByRecursion (λ b. (k : ℕ) × (None ≡ use_fault (k + 1) b)) (parts 5 hd.uses last)
+  uses_none =
+      let n = elements_none.1 ∙ ap first_told_fault (sym (append-nil (numbered a_use (0 + hd.points + hd.elements) (parts 5 hd.uses last)))) in
+      (told_none a_use (0 + hd.points + hd.elements) (parts 5 hd.uses last) [] n).0
 
-  points-back : all_bytes point_bytes (map point_of (parts 15 hd.points rest)) ++ mid ≡ rest
+  points_back : all_bytes point_bytes (map point_of (parts 15 hd.points rest)) ++ mid ≡ rest
   unfolding point_form
-  points-back = write_back point_form point_lawful hd.points rest (omega (arith, length_rest)) rest-bytes points_none.0
+  points_back = write_back point_form point_lawful hd.points rest (omega (arith, length_rest)) rest_bytes points_none.0
 
-  after-mid : drop (9 * hd.elements) mid ≡ last
-  after-mid = drop-drop (9 * hd.elements) (15 * hd.points) rest
+  after_mid : drop (9 * hd.elements) mid ≡ last
+  after_mid = drop-drop (9 * hd.elements) (15 * hd.points) rest
 
-  elements-back : all_bytes element_bytes (map element_of (parts 9 hd.elements mid)) ++ last ≡ mid
+  elements_back : all_bytes element_bytes (map element_of (parts 9 hd.elements mid)) ++ last ≡ mid
   unfolding element_form
-  elements-back =
+  elements_back =
       let l : 9 * hd.elements ≤ length mid = omega (arith, length_rest, length-drop (15 * hd.points) rest) in
-      ap (λ (bs : List ℕ). all_bytes element_bytes (map element_of (parts 9 hd.elements mid)) ++ bs) (sym after-mid)
-      ∙ write_back element_form element_lawful hd.elements mid l (bytes_drop (15 * hd.points) rest rest-bytes) elements-none.0
+      ap (λ (bs : List ℕ). all_bytes element_bytes (map element_of (parts 9 hd.elements mid)) ++ bs) (sym after_mid)
+      ∙ write_back element_form element_lawful hd.elements mid l (bytes_drop (15 * hd.points) rest rest_bytes) elements_none.0
 
-  uses-back : all_bytes use_bytes (map use_of (parts 5 hd.uses last)) ≡ last
+  uses_back : all_bytes use_bytes (map use_of (parts 5 hd.uses last)) ≡ last
   unfolding use_form
-  uses-back =
+  uses_back =
       let n : length last ≡ 5 * hd.uses = omega (arith, length_rest, length-drop (15 * hd.points + 9 * hd.elements) rest) in
       let none : drop (5 * hd.uses) last ≡ [] = drop_all (5 * hd.uses) last (omega (arith, n)) in
-      let w = write_back use_form use_lawful hd.uses last (omega (arith, n)) (bytes_drop (15 * hd.points + 9 * hd.elements) rest rest-bytes) uses-none in
+      let w = write_back use_form use_lawful hd.uses last (omega (arith, n)) (bytes_drop (15 * hd.points + 9 * hd.elements) rest rest_bytes) uses_none in
       sym (append-nil _) ∙ (ap (λ (bs : List ℕ). all_bytes use_bytes (map use_of (parts 5 hd.uses last)) ++ bs) (sym none) ∙ w)
 
-  pub read_then_written : bytes_of (year_of file) ≡ file
-  read_then_written = rw (uses-back, elements-back, points-back, ← head-is) (take-append-drop 27 file)
+  pub read_then_written : year_bytes (year_of file) ≡ file
+  read_then_written = rw (uses_back, elements_back, points_back, ← head_is) (take-append-drop 27 file)
 
-  header-kept : HeaderIn hd
+  header_kept : HeaderIn hd
   unfolding header_form
-  header-kept =
-      let n = header-none in
+  header_kept =
+      let n = header_none in
       let l = long in
       let t : ltb (length file) 27 ≡ false = grind (arith, nat_tests) in
       let f : None ≡ record_fault header_form 0 (take 27 file) = rw t at n in
       (read_written header_form header_lawful 0 (take 27 file) (length-take-le 27 file long) (bytes_take 27 file bytes) (sym f)).0
 
-  together-none : None ≡ together_fault (year_of file)
-  together-none = (or_none (first_told_fault (told_after hd rest)) _ (or_none (length_fault hd rest) _ (or_none (header_fault file) _ fine).1).1).1
+  together_none : None ≡ together_fault (year_of file)
+  together_none = (or_none (first_told_fault (told_after hd rest)) _ (or_none (length_fault hd rest) _ (or_none (header_fault file) _ fine).1).1).1
 
   -- and that year is sound
   pub sound_file : Sound (year_of file)
   sound_file =
-      let l = limits hd rest header-kept records-none together-none in
+      let l = limits hd rest header_kept records_none together_none in
       record {
-        some = omega (arith, (counts hd rest).0, (ranges hd header-kept).points.0);
+        some = omega (arith, (counts hd rest).0, (ranges hd header_kept).points.0);
         few = l.few;
         counted = l.counted;
         figures = l.figures;
@@ -352,12 +352,12 @@ module _ (file : List ℕ) (bytes : Bytes file) (fine : None ≡ first_fault fil
       }
 
 -- what a read that answers so says of the file
-pub one_form : {T : Type 0} (file : List ℕ) → Bytes file → (r : Result T Fault) → result_err r ≡ first_fault file → IfOk r (λ _. Sound (year_of file) × (file ≡ bytes_of (year_of file)))
+pub one_form : {T : Type 0} (file : List ℕ) → Bytes file → (r : Result T Fault) → result_err r ≡ first_fault file → IfOk r (λ _. Sound (year_of file) × (file ≡ year_bytes (year_of file)))
 one_form file b (Ok x) e = (sound_file file b e, sym (read_then_written file b e))
 one_form file b (Err f) e = tt
 
 pub all_found : {T : Type 0} (file : List ℕ) (r : Result T Fault) (after before : YearData) → result_err r ≡ first_fault file → MatchResult r (λ _. after ≡ year_of file) (λ _. after ≡ before)
-    → (d : YearData) → Sound d → file ≡ bytes_of d → MatchResult r (λ _. after ≡ d) (λ _. ⊥)
+    → (d : YearData) → Sound d → file ≡ year_bytes d → MatchResult r (λ _. after ≡ d) (λ _. ⊥)
 all_found file (Ok x) after before e h d so b = h ∙ (ap year_of b ∙ (written_then_read d so).1)
 all_found file (Err f) after before e h d so b =
     let z : ◌≡◌ {A = Option Fault} (Some f) None = e ∙ (ap first_fault b ∙ sym (written_then_read d so).0) in

@@ -10,7 +10,7 @@ use Rattle.records.specs.Headers.{header_bytes, header_form}
 use Rattle.records.specs.Points.{point_bytes, point_form}
 use Rattle.records.specs.Uses.{use_bytes, use_form}
 use Rattle.year.specs.Holds.{contents}
-use Rattle.year.specs.YearBytes.{bytes_of, write_refusal, Sound}
+use Rattle.year.specs.YearBytes.{year_bytes, write_refusal, Sound}
 use Rattle.year.specs.declared.year.Year.{Year}
 use Rattle.yearfile.specs.Bytes.{all_bytes, laid_at}
 use Rattle.yearfile.proofs.Laying.{laid_more}
@@ -52,21 +52,21 @@ module _ (d : YearData) where
   unfolding use_form
   length_uses = length_all use_form d.uses
 
-  length-file : length (bytes_of d) ≡ 27 + 15 * length d.points + 9 * length d.elements + 5 * length d.uses
+  length-file : length (year_bytes d) ≡ 27 + 15 * length d.points + 9 * length d.elements + 5 * length d.uses
   length-file = simp length-append (omega (arith, length_header, length-points, length_elements, length_uses))
 
   pub short : (room : ℕ) → 0 < length d.points → room < 27 + 15 * length d.points + 9 * length d.elements + 5 * length d.uses → Some BufferShort ≡ write_refusal d room
   short room some h =
-      let l : room < length (bytes_of d) = omega (arith, length-file) in
+      let l : room < length (year_bytes d) = omega (arith, length-file) in
       let a : eqb (length d.points) 0 ≡ false = grind (arith, nat_tests) in
-      let t : ltb room (length (bytes_of d)) ≡ true = grind (arith, nat_tests) in
+      let t : ltb room (length (year_bytes d)) ≡ true = grind (arith, nat_tests) in
       rw (a, t)
 
   pub fits : (room : ℕ) → 0 < length d.points → 27 + 15 * length d.points + 9 * length d.elements + 5 * length d.uses ≤ room → None ≡ write_refusal d room
   fits room some h =
-      let l : length (bytes_of d) ≤ room = omega (arith, length-file) in
+      let l : length (year_bytes d) ≤ room = omega (arith, length-file) in
       let a : eqb (length d.points) 0 ≡ false = grind (arith, nat_tests) in
-      let t : ltb room (length (bytes_of d)) ≡ false = grind (arith, nat_tests) in
+      let t : ltb room (length (year_bytes d)) ≡ false = grind (arith, nat_tests) in
       rw (a, t)
 
 -- bytes laid after bytes that begin the buffer

@@ -12,8 +12,8 @@ use Rattle.year.specs.Ranges.{Counted, Figures, Dated, Identified, Rated}
 use Rattle.yearfile.specs.Bytes.{all_bytes}
 
 -- the header, the points, the elements, the uses
-abbrev pub bytes_of : YearData → List ℕ
-bytes_of d =
+abbrev pub year_bytes : YearData → List ℕ
+year_bytes d =
     header_bytes d.header
     ++ (all_bytes point_bytes d.points
     ++ (all_bytes element_bytes d.elements
@@ -21,7 +21,7 @@ bytes_of d =
 
 -- 21, then 9
 abbrev pub write_refusal : YearData → ℕ → Option Refusal
-write_refusal d room = cond (length d.points == 0) (Some EmptyYear) (cond (nat_lt room (length (bytes_of d))) (Some BufferShort) None)
+write_refusal d room = cond (length d.points == 0) (Some EmptyYear) (cond (nat_lt room (length (year_bytes d))) (Some BufferShort) None)
 
 -- a year that is not the empty one and keeps every limit
 pub record Sound (d : YearData) : Type 0 where

@@ -3,7 +3,7 @@ ghost use Rattle.std.specs.Prelude.{◌≡◌, IfOk, MatchResult, OnOk};
 ghost use Rattle.std.specs.Result.{result_err};
 ghost use Rattle.agreement.specs.Data.{YearData, empty_year};
 ghost use Rattle.year.specs.Holds.{contents};
-ghost use Rattle.year.specs.YearBytes.{bytes_of, Sound};
+ghost use Rattle.year.specs.YearBytes.{year_bytes, Sound};
 ghost use Rattle.year.specs.YearFile.{first_fault, year_of};
 
 use crate::lists::Lists;
@@ -32,8 +32,8 @@ impl Year {
     pub fn read(&mut self, file: &[u8]) -> Result<(), Fault>
         ensures fault { result_err result ≡ first_fault file.now }
         ensures held { MatchResult result (λ _. contents self.new ≡ year_of file.now) (λ _. contents self.new ≡ contents self.old) }
-        ensures form { OnOk result (Sound (year_of file.now) × (file.now ≡ bytes_of (year_of file.now))) }
-        ensures found { (d : YearData) → Sound d → file.now ≡ bytes_of d → MatchResult result (λ _. contents self.new ≡ d) (λ _. ⊥) }
+        ensures form { OnOk result (Sound (year_of file.now) × (file.now ≡ year_bytes (year_of file.now))) }
+        ensures found { (d : YearData) → Sound d → file.now ≡ year_bytes d → MatchResult result (λ _. contents self.new ≡ d) (λ _. ⊥) }
     {
         self.take_in(file)
     }

@@ -3,7 +3,7 @@ ghost use Rattle.std.specs.Prelude.{◌≡◌, length, None, MatchResult, OnOk};
 ghost use Rattle.std.specs.Result.{result_err};
 ghost use Rattle.bits.specs.Laid.{over};
 ghost use Rattle.year.specs.Holds.{contents};
-ghost use Rattle.year.specs.YearBytes.{bytes_of, write_refusal};
+ghost use Rattle.year.specs.YearBytes.{year_bytes, write_refusal};
 ghost use Rattle.year.specs.YearFile.{first_fault, year_of};
 
 use crate::year::Year;
@@ -14,8 +14,8 @@ impl Year {
     // Writes the year's file at the start of a buffer, and answers how many bytes it takes.
     pub fn write(&self, buffer: &mut [u8]) -> Result<usize, Refusal>
         ensures refused { result_err result ≡ write_refusal (contents self.now) (length buffer.old) }
-        ensures written { MatchResult result (λ n. (n ≡ length (bytes_of (contents self.now))) × (buffer.new ≡ over (bytes_of (contents self.now)) buffer.old)) (λ _. buffer.new ≡ buffer.old) }
-        ensures back { OnOk result ((None ≡ first_fault (bytes_of (contents self.now))) × (year_of (bytes_of (contents self.now)) ≡ contents self.now)) }
+        ensures written { MatchResult result (λ n. (n ≡ length (year_bytes (contents self.now))) × (buffer.new ≡ over (year_bytes (contents self.now)) buffer.old)) (λ _. buffer.new ≡ buffer.old) }
+        ensures back { OnOk result ((None ≡ first_fault (year_bytes (contents self.now))) × (year_of (year_bytes (contents self.now)) ≡ contents self.now)) }
     {
         let points = self.points();
         let elements = self.elements();

@@ -15,8 +15,8 @@ use Rattle.yearfile.specs.declared.stream.Records.{Records}
 
 pub data Told : Type 0 where
   a_point : List ℕ → ℕ → Told
-  an-element : List ℕ → ℕ → Told
-  a-use : List ℕ → ℕ → Told
+  an_element : List ℕ → ℕ → Told
+  a_use : List ℕ → ℕ → Told
 
 -- the first `count` parts of `size` bytes each
 unfoldable pub parts : ℕ → ℕ → List ℕ → List (List ℕ)
@@ -32,14 +32,14 @@ numbered kind place (part ∷ rest) = kind part place ∷ numbered kind (suc pla
 abbrev pub told_in : ℕ → ℕ → ℕ → ℕ → List ℕ → List Told
 told_in points elements uses place bytes =
     numbered a_point place (parts 15 points bytes)
-    ++ (numbered an-element (place + points) (parts 9 elements (drop (15 * points) bytes))
-    ++ numbered a-use (place + points + elements) (parts 5 uses (drop (15 * points + 9 * elements) bytes)))
+    ++ (numbered an_element (place + points) (parts 9 elements (drop (15 * points) bytes))
+    ++ numbered a_use (place + points + elements) (parts 5 uses (drop (15 * points + 9 * elements) bytes)))
 
 -- the first field of a record that breaks its range; the record at place 0 is record number 1
 abbrev pub told_fault : Told → Option Fault
 told_fault (a_point bytes place) = point_fault (place + 1) bytes
-told_fault (an-element bytes place) = element_fault (place + 1) bytes
-told_fault (a-use bytes place) = use_fault (place + 1) bytes
+told_fault (an_element bytes place) = element_fault (place + 1) bytes
+told_fault (a_use bytes place) = use_fault (place + 1) bytes
 
 -- the first fault of records in their order
 unfoldable pub first_told_fault : List Told → Option Fault
@@ -48,24 +48,24 @@ first_told_fault (t ∷ ts) = told_fault t or_else first_told_fault ts
 
 abbrev pub place_of : Told → ℕ
 place_of (a_point bytes place) = place
-place_of (an-element bytes place) = place
-place_of (a-use bytes place) = place
+place_of (an_element bytes place) = place
+place_of (a_use bytes place) = place
 
 -- what the records of each kind say, in their order
 abbrev pub point_in : Told → List Point
 point_in (a_point bytes place) = point_of bytes ∷ []
-point_in (an-element bytes place) = []
-point_in (a-use bytes place) = []
+point_in (an_element bytes place) = []
+point_in (a_use bytes place) = []
 
 abbrev pub element_in : Told → List Element
 element_in (a_point bytes place) = []
-element_in (an-element bytes place) = element_of bytes ∷ []
-element_in (a-use bytes place) = []
+element_in (an_element bytes place) = element_of bytes ∷ []
+element_in (a_use bytes place) = []
 
 abbrev pub use_in : Told → List NetworkUse
 use_in (a_point bytes place) = []
-use_in (an-element bytes place) = []
-use_in (a-use bytes place) = use_of bytes ∷ []
+use_in (an_element bytes place) = []
+use_in (a_use bytes place) = use_of bytes ∷ []
 
 unfoldable pub all_in : {X : Type 0} → (Told → List X) → List Told → List X
 all_in kind [] = []
@@ -74,8 +74,8 @@ all_in kind (t ∷ ts) = kind t ++ all_in kind ts
 -- what the code tells, and what a stream has still to tell
 abbrev pub told : Record → Told
 told (variants.Point bytes place) = a_point bytes.now place
-told (variants.Element bytes place) = an-element bytes.now place
-told (variants.Use bytes place) = a-use bytes.now place
+told (variants.Element bytes place) = an_element bytes.now place
+told (variants.Use bytes place) = a_use bytes.now place
 
 abbrev pub to_come : Records → List Told
 to_come s = told_in s.points s.elements s.uses s.place s.rest.now
