@@ -1,7 +1,7 @@
 #!/usr/bin/env python3
 """Respells the definitions and lemmas of this repository, once, after the kit's own script: words in snake case, types in
 camel case. In a lemma's name a dash still joins the names of two definitions. Where two names would have become one, or a
-definition would have had a field's name, it gets one of its own.
+definition would have had the name of a field or of a tactic, it gets one of its own.
 
 usage: python3 tools/respell.py    at the top of the checkout
 """
@@ -20,8 +20,10 @@ None-moved NoneMoved
 Rating-in RatingIn
 Residues-near ResiduesNear
 Used-within UsedWithin
+a-use a_use
 added-all added_all
 adds-up adds_up
+after-mid after_mid
 agree-refusal agree_refusal
 all-allotted all_allotted
 all-amounts all_amounts
@@ -43,6 +45,7 @@ amounts-in amounts_in
 amounts-length amounts_length
 amounts-of amounts_of
 amounts-sum amounts_sum
+an-element an_element
 append-zeros-at append-zeros_at
 as-listed as_listed
 asked-all asked_all
@@ -110,11 +113,13 @@ come-more come_more
 come-none come_none
 common-are common_are
 common-charge common_charge
+common-charge-most common_charge_most
 common-most common_most
 common-price common_price_of
 common-remainder common_remainder_of
 common-result common_result
 common-revenue common_revenue
+common-whole common_whole
 common-within common_within
 cost-fits cost_fits
 cost-of cost_of
@@ -132,10 +137,14 @@ element-kept element_kept
 element-lawful element_lawful
 element-named element_named
 element-of element_of
+element-parts element_parts
 element-refusal element_refusal
 element-told element_told
 element-values element_values
+elements-back elements_back
 elements-in elements_in
+elements-none elements_none
+elements-ranged elements_ranged
 empty-refusal empty_refusal
 empty-year empty_year
 energies-are energies_are
@@ -156,7 +165,9 @@ exit-costs exit_costs_of
 exit-most exit_most
 exit-none exit_none
 exit-result exit_result
+exit-whole exit_whole
 exit-within exit_within
+fault-at fault_at
 few-told few_told
 field-bits field_bits
 field-fault field_fault
@@ -173,18 +184,25 @@ first-fault first_fault
 first-here first_here
 first-none first_none
 first-told-fault first_told_fault
+first_of first_fault_among
 free-none free_none
 front-all front_all
 front-is front_is
 front-more front_more
+head-is head_is
+header-back header_back
 header-bytes header_bytes
 header-fault header_fault
 header-fields header_fields
+header-fine header_fine
 header-form header_form
 header-in header_in
+header-kept header_kept
 header-lawful header_lawful
 header-named header_named
 header-near header_near
+header-none header_none
+header-ranged header_ranged
 header-refusal header_refusal
 header-row header_row
 header-stands header_stands
@@ -228,9 +246,11 @@ long-fault long_fault
 lower-bound lower_bound
 lowered-all lowered_all
 lowered-at lowered_at
+method-points method_points
 misplaced-at misplaced_at
 misplaced-fault misplaced_fault
 n1-are n1_are
+n1-is n1_is
 n1-of n1_of
 n1-small n1_small
 named-at named_at
@@ -249,9 +269,11 @@ no-share no_share
 no-use no_use
 non-locational-are non_locational_are
 non-locational-charge non_locational_charge
+non-locational-most non_locational_most
 non-locational-price non_locational_price_of
 non-locational-remainder non_locational_remainder_of
 non-locational-revenue non_locational_revenue
+non-locational-whole non_locational_whole
 none-all none_all
 none-at none_at
 none-back none_back
@@ -295,6 +317,8 @@ part-unused part_unused
 parts-have parts_have
 parts-in parts_in
 parts-of parts_of
+past-elements past_elements
+past-point past_point
 peak-le peak_le
 piece-given piece_given
 piece-lt piece_lt
@@ -314,11 +338,14 @@ point-kept point_kept
 point-lawful point_lawful
 point-named point_named
 point-of point_of
+point-parts point_parts
 point-refusal point_refusal
 point-values point_values
 pointed-year pointed_year
+points-back points_back
 points-have points_have
 points-in points_in
+points-ranged points_ranged
 price-as price_as
 price-high price_high
 price-in price_in
@@ -347,6 +374,7 @@ record-bytes record_bytes
 record-fault record_fault
 record-of record_of
 record-refusal record_refusal
+records-none records_none
 reduced-at reduced_at
 reduced-by reduced_by
 reduced-length reduced_length
@@ -355,6 +383,7 @@ refusal-as refusal_as
 remainderOf remainder_of
 repeated-at repeated_at
 repeated-fault repeated_fault
+rest-bytes rest_bytes
 rest-small rest_small
 results-most results_most
 results-whole results_whole
@@ -370,8 +399,10 @@ room-points room_points
 room-uses room_uses
 row-refusal row_refusal
 same-places same_places
+share-adds share_adds
 share-fits share_fits
 share-most share_most
+share-of-nothing share_of_nothing
 shareOf share_of
 shared-whole shared_whole
 shares-length shares_length
@@ -381,12 +412,16 @@ short-fault short_fault
 short-of short_of
 short-told short_told
 signed-in signed_in
+small-other small_other
+small-own small_own
 small-remainders small_remainders
 sound-file sound_file
 sound-of sound_of
 split-bitsOf split_bits_of
+spread-law spread_law
 spread-sum spread_sum
 stamp-fits stamp_fits
+sum-after sum_after
 sum-none sum_none
 sum-to sum_to
 summed-all summed_all
@@ -402,6 +437,7 @@ to-lower to_lower
 to-most to_most
 to-upper to_upper
 together-fault together_fault
+together-none together_none
 told-after told_after
 told-fault told_fault
 too-dear too_dear
@@ -428,16 +464,20 @@ use-in use_in
 use-lawful use_lawful
 use-named use_named
 use-of use_of
+use-parts use_parts
 use-refusal use_refusal
 use-told use_told
 use-values use_values
 use-within use_within
 used-more used_more
 used-none used_none
+uses-back uses_back
 uses-in uses_in
 uses-no uses_no
+uses-none uses_none
 uses-of uses_of
 uses-placed uses_placed
+uses-ranged uses_ranged
 uses-rise uses_rise
 uses-yes uses_yes
 values-back values_back
@@ -457,6 +497,7 @@ wrong-length wrong_length
 wrote-all wrote_all
 wrote-more wrote_more
 year-after year_after
+year-back year_back
 year-data year_data
 year-fault year_fault
 year-of year_of
@@ -467,11 +508,16 @@ zeros-sum zeros_sum
 """
 
 NAMES = dict(line.split() for line in TABLE.strip().split("\n"))
+OF_YEAR = {"bytes_of": "year_bytes"}  # in the crate `year`; `bits` has a `bytes_of` too
 TOKEN = re.compile(r"[^\s(){};,.«»`]+")
 
 
-def respelled(text):
-    return TOKEN.sub(lambda token: NAMES.get(token.group(), token.group()), text)
+def respelled(text, names=NAMES):
+    return TOKEN.sub(lambda token: names.get(token.group(), token.group()), text)
+
+
+def in_year(text):
+    return respelled(text, OF_YEAR)
 
 
 def in_code(text):
@@ -486,6 +532,9 @@ for pattern, turn in (
     ("crates/*/must-fail/*.edit", respelled),
     ("README.md", in_code),
     ("docs/*.md", in_code),
+    ("crates/year/specs/**/*.antt", in_year),
+    ("crates/year/proofs/**/*.antt", in_year),
+    ("crates/year/src/**/*.rt", in_year),
 ):
     for path in sorted(pathlib.Path(".").glob(pattern)):
         old = path.read_text(encoding="utf-8")
