@@ -5,17 +5,21 @@ use Rattle.bits.specs.declared.fault.Layer.TheVariants.{Bits, Record, Year}
 use Rattle.bits.specs.declared.refusal.Refusal.{Refusal}
 use Rattle.bits.specs.declared.refusal.Refusal.TheVariants.{FileShort, TrailingBytes, FieldOutOfRange, BufferShort}
 
+-- there are too few bytes, too many, or no room for them
+abbrev pub bits_fault : Refusal → Fault
+bits_fault refusal = record { refusal = refusal; layer = Bits; «record» = 0; field = 0 }
+
 -- the bytes end too soon
 abbrev pub short_fault : Fault
-short_fault = record { refusal = FileShort; layer = Bits; «record» = 0; field = 0 }
+short_fault = bits_fault FileShort
 
 -- bytes follow the last record
 abbrev pub long_fault : Fault
-long_fault = record { refusal = TrailingBytes; layer = Bits; «record» = 0; field = 0 }
+long_fault = bits_fault TrailingBytes
 
 -- a buffer has no room for what is to be written
 abbrev pub buffer_fault : Fault
-buffer_fault = record { refusal = BufferShort; layer = Bits; «record» = 0; field = 0 }
+buffer_fault = bits_fault BufferShort
 
 -- a field of a record is out of its range
 abbrev pub field_fault : ℕ → ℕ → Fault

@@ -1,6 +1,6 @@
 // What is wrong with a record: the refusal, the layer that saw it, and the record and the field that it lies in.
 ghost use Rattle.std.specs.Prelude.{◌≡◌};
-ghost use Rattle.bits.specs.Faults.{short_fault, long_fault, buffer_fault, field_fault, year_fault};
+ghost use Rattle.bits.specs.Faults.{bits_fault, field_fault, year_fault};
 
 use crate::refusal::Refusal;
 
@@ -21,36 +21,12 @@ pub struct Fault {
 }
 
 impl Fault {
-    // The bytes end too soon.
-    pub fn short() -> Fault
-        ensures { result ≡ short_fault }
+    // The bytes end too soon, bytes follow the last record, or a buffer has no room for what is to be written.
+    pub fn bits(refusal: Refusal) -> Fault
+        ensures { result ≡ bits_fault refusal }
     {
         Fault {
-            refusal: Refusal::FileShort,
-            layer: Layer::Bits,
-            record: 0,
-            field: 0,
-        }
-    }
-
-    // Bytes follow the last record.
-    pub fn long() -> Fault
-        ensures { result ≡ long_fault }
-    {
-        Fault {
-            refusal: Refusal::TrailingBytes,
-            layer: Layer::Bits,
-            record: 0,
-            field: 0,
-        }
-    }
-
-    // A buffer has no room for what is to be written.
-    pub fn buffer() -> Fault
-        ensures { result ≡ buffer_fault }
-    {
-        Fault {
-            refusal: Refusal::BufferShort,
+            refusal,
             layer: Layer::Bits,
             record: 0,
             field: 0,
@@ -79,5 +55,14 @@ impl Fault {
             record,
             field: 0,
         }
+    }
+}
+
+// What a fault is refused for, where its place is not told.
+impl From<Fault> for Refusal {
+    ghost from_gives = { λ f r. r ≡ f.refusal };
+
+    fn from(fault: Fault) -> Refusal {
+        fault.refusal
     }
 }

@@ -9,6 +9,7 @@ ghost use Rattle.bits.specs.Laid.{room_fault, laid};
 use crate::fault::Fault;
 use crate::field::{Field, Range};
 use crate::reader::Reader;
+use crate::refusal::Refusal;
 use crate::writer::Writer;
 
 impl Field {
@@ -128,7 +129,7 @@ pub fn lay_front(bytes: &[u8], buffer: &mut [u8]) -> Result<usize, Fault>
     ensures after { buffer.new ≡ laid result bytes.now buffer.old }
 {
     if buffer.len() < bytes.len() {
-        return Err(Fault::buffer());
+        return Err(Fault::bits(Refusal::BufferShort));
     }
     buffer[0..bytes.len()].copy_from_slice(bytes);
     Ok(bytes.len())

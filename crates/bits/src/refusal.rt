@@ -1,32 +1,33 @@
 // Why a call is refused.
-ghost use Rattle.std.specs.Prelude.{◌≡◌, ◌==◌};
+ghost use Rattle.std.specs.Prelude.{◌≡◌};
 ghost use Rattle.bits.specs.Refusals.{number_of};
-ghost use Rattle.std.specs.Cmp.Rules.{comparing};
-ghost use Rattle.std.proofs.Common.{rules};
-ghost use Rattle.std.specs.Cmp as Keys;
 
-#[derive(Clone, Copy, Debug, Eq)]
+use std::error::Error;
+use std::fmt;
+
+// Each with the number that stands for it.
+#[derive(Clone, Copy, Debug, PartialEq, Eq)]
 pub enum Refusal {
-    FileShort,
-    TrailingBytes,
-    FieldOutOfRange,
-    IdentifierRepeated,
-    UseMisplaced,
-    TotalOverLimit,
-    TotalZero,
-    ArgumentOutOfRange,
-    BufferShort,
-    EmptyYear,
-    NoYearOpen,
-    YearOpen,
-    RunOpen,
-    NoMatchingRun,
-    MonthIssued,
-    YearNotLater,
-    PointsChanged,
-    MethodPointsDiffer,
-    OutstandingOverLimit,
-    PriceOverLimit,
+    FileShort = 1,
+    TrailingBytes = 2,
+    FieldOutOfRange = 3,
+    IdentifierRepeated = 4,
+    UseMisplaced = 5,
+    TotalOverLimit = 6,
+    TotalZero = 7,
+    ArgumentOutOfRange = 8,
+    BufferShort = 9,
+    EmptyYear = 21,
+    NoYearOpen = 22,
+    YearOpen = 23,
+    RunOpen = 24,
+    NoMatchingRun = 25,
+    MonthIssued = 26,
+    YearNotLater = 27,
+    PointsChanged = 28,
+    MethodPointsDiffer = 29,
+    OutstandingOverLimit = 30,
+    PriceOverLimit = 31,
 }
 
 impl Refusal {
@@ -34,38 +35,14 @@ impl Refusal {
     pub fn number(self) -> u8
         ensures { result ≡ number_of self }
     {
-        match self {
-            Refusal::FileShort => 1,
-            Refusal::TrailingBytes => 2,
-            Refusal::FieldOutOfRange => 3,
-            Refusal::IdentifierRepeated => 4,
-            Refusal::UseMisplaced => 5,
-            Refusal::TotalOverLimit => 6,
-            Refusal::TotalZero => 7,
-            Refusal::ArgumentOutOfRange => 8,
-            Refusal::BufferShort => 9,
-            Refusal::EmptyYear => 21,
-            Refusal::NoYearOpen => 22,
-            Refusal::YearOpen => 23,
-            Refusal::RunOpen => 24,
-            Refusal::NoMatchingRun => 25,
-            Refusal::MonthIssued => 26,
-            Refusal::YearNotLater => 27,
-            Refusal::PointsChanged => 28,
-            Refusal::MethodPointsDiffer => 29,
-            Refusal::OutstandingOverLimit => 30,
-            Refusal::PriceOverLimit => 31,
-        }
+        self as u8
     }
 }
 
-// Each refusal has a number of its own.
-impl PartialEq for Refusal {
-    ghost eq = { λ a b. (number_of a == number_of b) };
-
-    ghost laws = { Keys.partial_equiv_from_equiv (Prim.search (comparing, rules)) };
-
-    fn eq(&self, other: &Refusal) -> bool {
-        self.number() == other.number()
+impl fmt::Display for Refusal {
+    fn fmt<W: fmt::Write>(&self, f: &mut fmt::Formatter<W>) -> fmt::Result {
+        write!(f, "refused {}", self.number())
     }
 }
+
+impl Error for Refusal {}

@@ -9,6 +9,7 @@ mod bytes;
 mod tests {
     use crate::bytes::*;
     use bits::fault::Fault;
+    use bits::refusal::Refusal;
     use records::bill::Bill;
     use records::element::Element;
     use records::header::Header;
@@ -189,12 +190,18 @@ mod tests {
     // A length that is wrong comes before any field.
     #[test]
     fn lengths(rt: HostRuntime) {
-        assert_eq!(rt; short_header(HEADER), Some(Fault::short()));
-        assert_eq!(rt; short_bill(JULY[1]), Some(Fault::short()));
-        assert_eq!(rt; Bill::read(&[0; 40]).err(), Some(Fault::short()));
-        assert_eq!(rt; Bill::read(&[0; 42]).err(), Some(Fault::long()));
-        assert_eq!(rt; Fault::short().refusal.number(), 1);
-        assert_eq!(rt; Fault::long().refusal.number(), 2);
+        assert_eq!(rt; short_header(HEADER), Some(Fault::bits(Refusal::FileShort)));
+        assert_eq!(rt; short_bill(JULY[1]), Some(Fault::bits(Refusal::FileShort)));
+        assert_eq!(rt;
+            Bill::read(&[0; 40]).err(),
+            Some(Fault::bits(Refusal::FileShort))
+        );
+        assert_eq!(rt;
+            Bill::read(&[0; 42]).err(),
+            Some(Fault::bits(Refusal::TrailingBytes))
+        );
+        assert_eq!(rt; Fault::bits(Refusal::FileShort).refusal.number(), 1);
+        assert_eq!(rt; Fault::bits(Refusal::TrailingBytes).refusal.number(), 2);
     }
 
     // Refused at a field, also where the buffer is too short, which then stays as it was.
@@ -318,10 +325,10 @@ mod tests {
         let mut buffer = [7; 40];
         assert_eq!(rt;
             bill_again(&rt, JULY[1])?.write(&mut buffer),
-            Err(Fault::buffer())
+            Err(Fault::bits(Refusal::BufferShort))
         );
         assert_eq!(rt; buffer, [7; 40]);
-        assert_eq!(rt; Fault::buffer().refusal.number(), 9);
+        assert_eq!(rt; Fault::bits(Refusal::BufferShort).refusal.number(), 9);
         Ok(())
     }
 }

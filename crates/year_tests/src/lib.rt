@@ -266,12 +266,21 @@ mod tests {
         let mut year = worked(&rt, rt.alloc())?;
         let file = *WORKED;
         for length in 0..91usize {
-            assert_eq!(rt; year.read(&file[0..length]), Err(Fault::short()));
+            assert_eq!(rt;
+                year.read(&file[0..length]),
+                Err(Fault::bits(Refusal::FileShort))
+            );
         }
-        assert_eq!(rt; year.read(&changed(&[(0, 33)])[0..26]), Err(Fault::short()));
+        assert_eq!(rt;
+            year.read(&changed(&[(0, 33)])[0..26]),
+            Err(Fault::bits(Refusal::FileShort))
+        );
         let mut longer = [0u8; 92];
         longer[0..91].copy_from_slice(WORKED);
-        assert_eq!(rt; year.read(&longer), Err(Fault::long()));
+        assert_eq!(rt;
+            year.read(&longer),
+            Err(Fault::bits(Refusal::TrailingBytes))
+        );
         longer[0] = 33;
         assert_eq!(rt; year.read(&longer), Err(Fault::outside(0, 1)));
         assert_eq!(rt; year.points().len(), 3);
