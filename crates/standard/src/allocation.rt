@@ -8,12 +8,12 @@ ghost use Rattle.standard.specs.Parting.{parts-length, parts-sum};
 ghost use Rattle.std.proofs.Common.{arith};
 
 use crate::elements::part_of;
-use crate::filled::FilledYear;
 use crate::lends::Lends;
 use crate::rules::Rule;
 use crate::walk::{amount_of, amounts_of};
 use bits::refusal::Refusal;
 use methods::method::{MAX_POOL, Method};
+use year::filled::FilledYear;
 use year::year::Year;
 
 #[derive(Drop)]

@@ -4,7 +4,6 @@
 
 pub mod allocation;
 mod elements;
-pub mod filled;
 pub mod lends;
 pub mod rules;
 mod shares;

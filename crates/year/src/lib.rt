@@ -1,6 +1,7 @@
 // The checked year: one that keeps every limit, or the empty one.
 #![tactic(auto)]
 
+pub mod filled;
 mod fills;
 mod lists;
 pub mod questions;
