@@ -1,6 +1,8 @@
 -- When a method answers, and what. Assumes nothing.
-use Rattle.std.proofs.Common.{◌≡◌, ℕ, ◌<◌, ◌≤◌, List, get_or, Ok, Err, ⊎_elim, arith}
-use Rattle.std.proofs.lemmas.Bool.{le-leb, lt-leb, lt-ltb, leb-true, ltb-true, and_from, and_parts, and_left, cond-true, cond-false, cases_Bool, cases_lt}
+use Rattle.std.proofs.Common.{◌≡◌, ℕ, ◌<◌, ◌≤◌, List, length, get_or, Ok, Err, sym, ap, ◌∙◌, ⊎_elim, arith}
+use Rattle.std.specs.Result.{result_unwrap_or}
+use Rattle.std.proofs.lemmas.List.{get_or_past}
+use Rattle.std.proofs.lemmas.Bool.{le-leb, le-ltb, lt-leb, lt-ltb, leb-true, ltb-true, and_from, and_parts, and_left, and_right, cond-true, cond-false, cases_Bool, cases_lt}
 use Rattle.bits.specs.declared.refusal.Refusal.{Refusal}
 use Rattle.bits.specs.declared.refusal.Refusal.TheVariants.{ArgumentOutOfRange}
 use Rattle.methods.specs.Asked.{in_range, asked, asked_all, padded}
@@ -18,6 +20,15 @@ asked_ok count pool place xs a e = ⊎_elim
     (λ f. let o : asked count pool place xs ≡ Err ArgumentOutOfRange = cond-false _ _ _ f in
     let z : ◌≡◌ {A = ℕ} 0 1 = cc in absurd (omega arith))
     (cases_Bool (in_range count pool place))
+
+-- zero for each place past the last one
+pub asked_or_zero : (count pool place : ℕ) (xs : List ℕ) → pool ≤ 100000000000 → length xs ≡ count → result_unwrap_or (asked count pool place xs) 0 ≡ get_or xs place 0
+asked_or_zero count pool place xs p e = ⊎_elim
+    (λ h. ap (λ r. result_unwrap_or r 0) (asked-within count pool place xs p h))
+    (λ h. let f : asked count pool place xs ≡ Err ArgumentOutOfRange = cond-false _ _ _ (and_right _ _ (le-ltb place count h)) in
+    let past : length xs ≤ place = omega arith in
+    ap (λ r. result_unwrap_or r 0) f ∙ sym (get_or_past xs place 0 past))
+    (cases_lt place count)
 
 -- at a place that is there only the pool can be out of range
 pub asked_err : (count pool place : ℕ) (xs : List ℕ) (r : Refusal) → place < count → Err r ≡ asked count pool place xs → (100000000000 < pool) × (r ≡ ArgumentOutOfRange)

@@ -7,6 +7,7 @@ ghost use Rattle.methods.specs.Lowering.{lowered-length, lowered-sum};
 
 use crate::method::{MAX_POOL, Method};
 use bits::refusal::Refusal;
+use std::array;
 
 // The largest figure that is agreed, in cents.
 pub const MAX_FIGURE: u64 = MAX_POOL;
@@ -89,10 +90,7 @@ impl<M: Method> Method for Discount<M> {
     }
 
     fn amounts(&self, pool: u64) -> Result<[u64; 64], Refusal> {
-        let mut amounts = self.method.amounts(pool)?;
-        for (place, figure) in self.figures.iter().enumerate() {
-            amounts[place] = lower(amounts[place], *figure);
-        }
-        Ok(amounts)
+        let amounts = self.method.amounts(pool)?;
+        Ok(array::from_fn(|place| lower(amounts[place], self.figures[place])))
     }
 }

@@ -3,6 +3,7 @@ ghost use Rattle.std.specs.Prelude.{◌≡◌, ℕ, ◌≤◌, List, length, sum
 ghost use Rattle.methods.specs.Asked.{asked, asked_all};
 
 use bits::refusal::Refusal;
+use std::array;
 
 // The largest pool that is allotted, in cents.
 pub const MAX_POOL: u64 = 100_000_000_000;
@@ -38,11 +39,10 @@ pub trait Method {
     fn amounts(&self, pool: u64) -> Result<[u64; 64], Refusal>
         ensures { result ≡ asked_all pool (amounts self.now pool) }
     {
-        let mut amounts = [0; 64];
-        for place in 0..self.points() {
-            amounts[place] = self.amount(pool, place)?;
+        if pool > MAX_POOL {
+            return Err(Refusal::ArgumentOutOfRange);
         }
-        Ok(amounts)
+        Ok(array::from_fn(|place| self.amount(pool, place).unwrap_or(0)))
     }
 
     // One point to 64.

@@ -1,28 +1,18 @@
-use Rattle.std.proofs.Common.{◌≡◌, set, Ok, sym, ap, ◌∙◌, arith}
-use Rattle.methods.proofs.Answering.{asked_ok, all_within}
-use Rattle.methods.specs.Padding.{front_more, front_all}
+use Rattle.std.proofs.Common.{◌≤◌, Ok, sym, ap, ◌∙◌, arith, rules}
+use Rattle.std.specs.Result.{result_unwrap_or}
+use Rattle.methods.specs.Asked.{asked}
+use Rattle.methods.proofs.Answering.{asked_or_zero, all_within}
+use Rattle.methods.proofs.Filled.{padded_by}
 use Rattle.methods.proofs.method.Method.amounts.Goals as goal
-
-pub loop-place-preserved : goal.loop-place-preserved
-loop-place-preserved g c =
-    let m = c.args.self.now in
-    let pool = c.args.pool in
-    let place = c.loop-place.place in
-    let xs = g.Self.Method.amounts m pool in
-    let a = c.in_ok-amounts.field-0 in
-    let told = asked_ok (g.Self.Method.points m) pool place xs a c.in_ok-amounts.ensures in
-    let met = g.met.Self.Method in (
-      ap (λ ys. set ys place a) c.loop-place.invariant.0
-          ∙ front_more place xs a (omega (arith, told.1, met.allotted m pool)) (omega (arith, told.1, met.few m)) told.2,
-      λ _. told.0,
-    )
 
 pub returns : goal.returns
 returns g c =
     let m = c.args.self.now in
     let pool = c.args.pool in
-    let place = c.loop-place.place in
     let xs = g.Self.Method.amounts m pool in
+    let count = g.Self.Method.points m in
     let met = g.met.Self.Method in
-    let all : c.loop-place.amounts ≡ _ = c.loop-place.invariant.0 ∙ front_all place xs (omega (arith, met.allotted m pool)) in
-    ap Ok all ∙ sym (all_within pool xs (c.loop-place.invariant.1 (omega (arith, met.some m))))
+    let small : pool ≤ 100000000000 = omega arith in
+    ap Ok (padded_by _ (λ k. result_unwrap_or (asked count pool k xs) 0) _ _ xs (omega (arith, met.allotted m pool, met.few m)) (λ k y q h e. search rules) c.from_fn.ensures.items
+    (λ k h. asked_or_zero count pool k xs small (met.allotted m pool)))
+    ∙ sym (all_within pool xs small)
