@@ -2,7 +2,8 @@
 use Rattle.std.specs.Prelude.{◌≡◌, ℕ, zero, suc, ◌+◌, ◌-◌, ◌<◌, ◌≤◌, List, [], ◌∷◌, ◌++◌, length, take, set, replicate, sum, slice_index, slice_index_or, slice_set, refl}
 use Rattle.std.proofs.Common.{sym, ap, ◌∙◌, append_assoc, arith}
 use Rattle.std.proofs.lemmas.List.{length-append, length-replicate, length-take-le, set_at, take_more, take_all}
-use Rattle.std.proofs.lemmas.List.Sums.{sum_by-append, sum_by-cons}
+use Rattle.std.proofs.lemmas.List.Folds.{sum_by-replicate}
+use Rattle.std.proofs.lemmas.List.Sums.{sum_by-append}
 use Rattle.methods.specs.Asked.{padded}
 
 -- the first n entries, and zero from there on
@@ -29,17 +30,13 @@ zeros_at zero k = refl
 zeros_at (suc n) zero = refl
 zeros_at (suc n) (suc k) = zeros_at n k
 
-zeros_sum : (n : ℕ) → sum (replicate n 0) ≡ 0
-zeros_sum zero = refl
-zeros_sum (suc n) = omega (arith, sum_by-cons (λ (x : ℕ). x) 0 (replicate n 0), zeros_sum n)
-
 pub padded-length : (xs : List ℕ) → length xs ≤ 64 → length (padded xs) ≡ 64
 unfolding padded
 padded-length xs h = omega (arith, length-append xs (replicate (64 - length xs) 0), length-replicate {A = ℕ} (64 - length xs) 0)
 
 pub padded-sum : (xs : List ℕ) → sum (padded xs) ≡ sum xs
 unfolding padded
-padded-sum xs = omega (arith, sum_by-append (λ (x : ℕ). x) xs (replicate (64 - length xs) 0), zeros_sum (64 - length xs))
+padded-sum xs = omega (arith, sum_by-append (λ (x : ℕ). x) xs (replicate (64 - length xs) 0), sum_by-replicate (λ (x : ℕ). x) (64 - length xs) 0)
 
 append-zeros_at : (xs : List ℕ) (n k : ℕ) → slice_index (xs ++ replicate n 0) k ≡ slice_index xs k
 append-zeros_at [] n k = zeros_at n k

@@ -80,6 +80,7 @@ impl<M: Method> Method for Discount<M> {
         self.method.elements()
     }
 
+    #[tactic(auto, using(crate::specs::Lowering::lowered_at))]
     fn amount(&self, pool: u64, place: usize) -> Result<u64, Refusal> {
         let amount = self.method.amount(pool, place)?;
         Ok(lower(amount, self.figures[place]))
