@@ -1,4 +1,3 @@
-pub mod Months
 pub mod Shares
 pub mod Spreads
 pub mod Twelfths

@@ -3,12 +3,6 @@ ghost use Rattle.std.specs.Prelude.{◌≡◌, ◌≤◌};
 ghost use Rattle.std.specs.Option.{SomeIff};
 ghost use Rattle.money.specs.Calendar.{days_in, days_in_february};
 
-// The days of July to June, with a February of 28 days.
-const DAYS: [u8; 12] = [31, 31, 30, 31, 30, 31, 31, 28, 31, 30, 31, 30];
-
-// February, counted from July.
-const FEBRUARY: u8 = 8;
-
 // The days of February in a calendar year.
 fn days_in_february(year: u32) -> u8
     ensures { result ≡ days_in_february year }
@@ -25,11 +19,10 @@ fn days_in_february(year: u32) -> u8
 pub fn days(year: u16, month: u8) -> Option<u8>
     ensures { SomeIff result ((1 ≤ month) × (month ≤ 12)) (days_in year month) }
 {
-    if month < 1 || month > 12 {
-        return None;
+    match month {
+        1 | 2 | 4 | 6 | 7 | 9 | 11 => Some(31),
+        3 | 5 | 10 | 12 => Some(30),
+        8 => Some(days_in_february(u32::from(year) + 1)),
+        _ => None,
     }
-    if month == FEBRUARY {
-        return Some(days_in_february(year as u32 + 1));
-    }
-    Some(DAYS[month as usize - 1])
 }

@@ -15,13 +15,13 @@ pub const MAX_WEIGHT: u64 = 10_000_000;
 pub fn share(amount: u64, before: u64, weight: u64, total: u64) -> Option<u64>
     ensures { SomeIff result (Sharable amount total × (before + weight ≤ total)) (share_of amount before weight total) }
 {
-    if amount > MAX_AMOUNT || total > MAX_WEIGHT || before > total || weight > total - before {
+    let after = before.checked_add(weight)?;
+    if amount > MAX_AMOUNT || total > MAX_WEIGHT || after > total {
         return None;
     }
-    if total == 0 {
-        return Some(0);
-    }
-    Some(amount * (before + weight) / total - amount * before / total)
+    // What goes to the first items, which weigh so much together.
+    let due_to = |weight: u64| (amount * weight).checked_div(total).unwrap_or(0);
+    Some(due_to(after) - due_to(before))
 }
 
 // The shares of all items, in the order of their weights.
@@ -33,11 +33,13 @@ pub fn shares<const N: usize>(amount: u64, weights: [u64; N]) -> Option<[u64; N]
     if amount > MAX_AMOUNT {
         return None;
     }
-    let mut shares = [0; N];
+    // Each weight gives way to its share.
+    let mut shares = weights;
     let mut before = 0;
-    for (i, weight) in weights.iter().enumerate() {
-        shares[i] = share(amount, before, *weight, total)?;
-        before += *weight;
+    for place in &mut shares {
+        let weight = *place;
+        *place = share(amount, before, weight, total)?;
+        before += weight;
     }
     Some(shares)
 }

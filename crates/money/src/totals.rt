@@ -6,12 +6,6 @@ ghost use Rattle.std.specs.Option.{SomeIff};
 pub(crate) fn total_within(numbers: &[u64], limit: u64) -> Option<u64>
     ensures { SomeIff result (sum numbers.now ≤ limit) (sum numbers.now) }
 {
-    let mut total = 0;
-    for number in numbers {
-        if *number > limit - total {
-            return None;
-        }
-        total += *number;
-    }
-    Some(total)
+    let total: u128 = numbers.iter().map(|number| u128::from(*number)).sum();
+    u64::try_from(total).ok().filter(|total| *total <= limit)
 }

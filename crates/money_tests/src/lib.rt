@@ -102,8 +102,8 @@ mod tests {
     #[test]
     fn month_lengths(rt: HostRuntime) {
         let lengths: [u8; 12] = [31, 31, 30, 31, 30, 31, 31, 28, 31, 30, 31, 30];
-        for (i, length) in lengths.iter().enumerate() {
-            assert_eq!(rt; days(2026, i as u8 + 1), Some(*length));
+        for (month, length) in (1..=12).zip(lengths) {
+            assert_eq!(rt; days(2026, month), Some(length));
         }
         let februaries: [(u16, u8); 8] = [
             (2027, 29),

@@ -1,6 +1,6 @@
-use Rattle.std.proofs.Common.{mul-le-mul_left, rules}
+use Rattle.std.proofs.Common.{mul-le-mul_left, arith}
 use Rattle.money.proofs.Shares.{div_mono}
 use Rattle.money.proofs.sharing.share.Goals as goal
 
 pub overflow_sub-result : goal.overflow_sub-result
-overflow_sub-result c = search (rules, div_mono, mul-le-mul_left)
+overflow_sub-result c = grind (arith, div_mono, mul-le-mul_left)

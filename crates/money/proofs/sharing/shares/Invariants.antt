@@ -1,5 +1,5 @@
 use Rattle.money.proofs.Shares.{Filled}
 use Rattle.money.proofs.sharing.shares.Given as goal
 
-abbrev pub invariant-loop-i : goal.invariant-loop-i
-invariant-loop-i g l = Filled l.amount l.weight-items l.i l.before l.shares
+abbrev pub invariant-loop-place : goal.invariant-loop-place
+invariant-loop-place g l = Filled l.amount l.fn.weights l.place-index l.before l.place-items
