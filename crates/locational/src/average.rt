@@ -14,8 +14,5 @@ pub fn average(amounts: u64, demands: u64) -> Option<u64>
     if amounts > MAX_AMOUNTS {
         return None;
     }
-    if demands == 0 {
-        return Some(0);
-    }
-    Some(1000 * amounts / demands)
+    Some((1000 * amounts).checked_div(demands).unwrap_or(0))
 }

@@ -17,6 +17,7 @@ const MARGIN: u64 = 200;
 // How far the prices of a year may move: how its average stands to that of the last opened year.
 #[derive(Clone, Copy)]
 pub struct SideConstraint {
+    // Zero where there was none: by the rules an average of zero sets no bound either.
     last_average: u64,
     // This average to the last one, in ten-thousandths; zero without a last average.
     ratio: u64,
@@ -29,27 +30,14 @@ impl SideConstraint {
         ensures last { result.last_average ≡ last_average }
         ensures ratio { result.ratio ≡ ratio_of average last_average }
     {
-        let ratio = if last_average == 0 {
-            0
-        } else {
-            (10_000 * average as u128 / last_average as u128).min(MAX_RATIO) as u64
-        };
+        let ratio = (10_000 * u128::from(average))
+            .checked_div(u128::from(last_average))
+            .unwrap_or(0)
+            .min(MAX_RATIO) as u64;
         SideConstraint {
             last_average,
             ratio,
         }
-    }
-
-    fn lower_bound(&self, prior: u64) -> u128
-        ensures { result ≡ lower_bound prior self.now.ratio }
-    {
-        prior as u128 * self.ratio.saturating_sub(MARGIN) as u128 / 10_000
-    }
-
-    fn upper_bound(&self, prior: u64) -> u128
-        ensures { result ≡ upper_bound prior self.now.ratio }
-    {
-        prior as u128 * (self.ratio + MARGIN) as u128 / 10_000
     }
 
     // A price, or the bound nearest to it where there is a prior price to go by.
@@ -59,7 +47,11 @@ impl SideConstraint {
         if prior == 0 || self.last_average == 0 {
             return price;
         }
-        price.clamp(self.lower_bound(prior), self.upper_bound(prior))
+        let bound = |ratio: u64| u128::from(prior) * u128::from(ratio) / 10_000;
+        price.clamp(
+            bound(self.ratio.saturating_sub(MARGIN)),
+            bound(self.ratio + MARGIN),
+        )
     }
 
     // The price of a point for its amount and its demand, moved to the nearest bound where it lies outside; above
@@ -72,10 +64,10 @@ impl SideConstraint {
         if demand == 0 {
             return Ok(0);
         }
-        let price = self.constrain(1000 * amount as u128 / demand as u128, prior);
-        if price > MAX_PRICE as u128 {
-            return Err(Refusal::PriceOverLimit);
+        let price = self.constrain(1000 * u128::from(amount) / u128::from(demand), prior);
+        match u64::try_from(price) {
+            Ok(price) if price <= MAX_PRICE => Ok(price),
+            _ => Err(Refusal::PriceOverLimit),
         }
-        Ok(price as u64)
     }
 }
