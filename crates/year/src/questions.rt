@@ -1,9 +1,13 @@
 // Questions about a year, which leave it as it was.
 ghost use Rattle.std.specs.Prelude.{◌≡◌, length, IfOk, slice_index_or};
+ghost use Rattle.std.specs.List.{slice_get};
+ghost use Rattle.std.specs.Option.{ok_or};
 ghost use Rattle.std.specs.Result.{result_err};
 ghost use Rattle.agreement.specs.Together.{no_point, no_element, no_use};
+ghost use Rattle.bits.specs.declared.refusal.Refusal.TheVariants.{ArgumentOutOfRange};
 ghost use Rattle.year.specs.Holds.{contents, empty_refusal, place_refusal};
 
+use crate::lists::Lists;
 use crate::year::Year;
 use bits::refusal::Refusal;
 use records::element::Element;
@@ -33,15 +37,23 @@ impl Year {
         self.held.uses.as_slice()
     }
 
+    // The lists of a year that is not the empty one.
+    pub(crate) fn lists(&self) -> Result<&Lists, Refusal>
+        ensures refused { result_err result ≡ empty_refusal (contents self.now) }
+        ensures value { IfOk result (λ l. l.now ≡ self.now.held) }
+    {
+        if self.held.points.is_empty() {
+            return Err(Refusal::EmptyYear);
+        }
+        Ok(&self.held)
+    }
+
     // The header, with the year, the counts and the amounts.
     pub fn header(&self) -> Result<Header, Refusal>
         ensures refused { result_err result ≡ empty_refusal (contents self.now) }
         ensures value { IfOk result (λ h. h ≡ (contents self.now).header) }
     {
-        if self.held.points.is_empty() {
-            return Err(Refusal::EmptyYear);
-        }
-        Ok(self.held.header)
+        Ok(self.lists()?.header)
     }
 
     // The point at a place.
@@ -49,14 +61,7 @@ impl Year {
         ensures refused { result_err result ≡ place_refusal (contents self.now) (length (contents self.now).points) place }
         ensures value { IfOk result (λ p. p ≡ slice_index_or (contents self.now).points place no_point) }
     {
-        let points = self.points();
-        if points.is_empty() {
-            return Err(Refusal::EmptyYear);
-        }
-        if place >= points.len() {
-            return Err(Refusal::ArgumentOutOfRange);
-        }
-        Ok(points[place])
+        record_at(&self.lists()?.points, place)
     }
 
     // The element at a place.
@@ -64,14 +69,7 @@ impl Year {
         ensures refused { result_err result ≡ place_refusal (contents self.now) (length (contents self.now).elements) place }
         ensures value { IfOk result (λ e. e ≡ slice_index_or (contents self.now).elements place no_element) }
     {
-        let elements = self.elements();
-        if self.held.points.is_empty() {
-            return Err(Refusal::EmptyYear);
-        }
-        if place >= elements.len() {
-            return Err(Refusal::ArgumentOutOfRange);
-        }
-        Ok(elements[place])
+        record_at(&self.lists()?.elements, place)
     }
 
     // The use at a place.
@@ -79,13 +77,16 @@ impl Year {
         ensures refused { result_err result ≡ place_refusal (contents self.now) (length (contents self.now).uses) place }
         ensures value { IfOk result (λ u. u ≡ slice_index_or (contents self.now).uses place no_use) }
     {
-        let uses = self.uses();
-        if self.held.points.is_empty() {
-            return Err(Refusal::EmptyYear);
-        }
-        if place >= uses.len() {
-            return Err(Refusal::ArgumentOutOfRange);
-        }
-        Ok(uses[place])
+        record_at(&self.lists()?.uses, place)
     }
+}
+
+// The record at a place of a list.
+fn record_at<T: Copy>(records: &[T], place: usize) -> Result<T, Refusal>
+    ensures { result ≡ ok_or (slice_get records.now place) ArgumentOutOfRange }
+{
+    records
+        .get(place)
+        .copied()
+        .ok_or(Refusal::ArgumentOutOfRange)
 }
