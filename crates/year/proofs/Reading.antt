@@ -1,8 +1,9 @@
 -- What the records of a file say, and what they keep where none has a fault. Assumes nothing.
 use Rattle.std.proofs.Common.{◌≡◌, ℕ, zero, suc, ◌+◌, ◌*◌, ◌<◌, ◌≤◌, List, [], ◌∷◌, ◌++◌, map, length, drop, nat_abs, None, sym, refl, ap, ◌∙◌, subst, append_assoc, append-nil, arith}
-use Rattle.std.specs.List.{AllByRecursion}
+use Rattle.std.specs.List.{AllByRecursion, flat_map}
 use Rattle.std.proofs.ByRecursion.{All-get_or}
 use Rattle.std.proofs.lemmas.List.{length-map}
+use Rattle.std.proofs.lemmas.List.Concat.{flat_map-append}
 use Rattle.agreement.specs.Agreement.{together_fault}
 use Rattle.agreement.specs.Data.{YearData, Few}
 use Rattle.agreement.specs.Limits.{Distinct, Named, Rising, Within, UsedWithin, Priced}
@@ -23,27 +24,22 @@ use Rattle.year.specs.Contents.{gathered}
 use Rattle.year.specs.Ranges.{Counted, Figures, Dated, Identified, Rated, Blank}
 use Rattle.year.specs.YearFile.{year_after, year_of, first_fault}
 use Rattle.yearfile.specs.File.{length_fault, told_after}
-use Rattle.yearfile.specs.Told.{Told, a_point, an_element, a_use, parts, numbered, first_told_fault, all_in, point_in, element_in, use_in}
+use Rattle.yearfile.specs.Told.{Told, a_point, an_element, a_use, parts, numbered, first_told_fault, point_in, element_in, use_in}
 
 -- records of one kind and of others, among those told
 module _ {X : Type 0} (kind : Told → List X) where
-  all_append : (ts us : List Told) → all_in kind (ts ++ us) ≡ all_in kind ts ++ all_in kind us
-  unfolding all_in
-  all_append [] us = refl
-  all_append (t ∷ ts) us = ap (λ (l : List X). kind t ++ l) (all_append ts us) ∙ sym (append_assoc (kind t) (all_in kind ts) (all_in kind us))
-
-  own : (tell : List ℕ → ℕ → Told) (of : List ℕ → X) → ((b : List ℕ) (n : ℕ) → kind (tell b n) ≡ of b ∷ []) → (n : ℕ) (ps : List (List ℕ)) → all_in kind (numbered tell n ps) ≡ map of ps
-  unfolding all_in numbered
+  own : (tell : List ℕ → ℕ → Told) (of : List ℕ → X) → ((b : List ℕ) (n : ℕ) → kind (tell b n) ≡ of b ∷ []) → (n : ℕ) (ps : List (List ℕ)) → flat_map kind (numbered tell n ps) ≡ map of ps
+  unfolding numbered
   own tell of h n [] = refl
-  own tell of h n (p ∷ ps) = ap (λ (l : List X). l ++ all_in kind (numbered tell (suc n) ps)) (h p n) ∙ ap (λ (l : List X). of p ∷ l) (own tell of h (suc n) ps)
+  own tell of h n (p ∷ ps) = ap (λ (l : List X). l ++ flat_map kind (numbered tell (suc n) ps)) (h p n) ∙ ap (λ (l : List X). of p ∷ l) (own tell of h (suc n) ps)
 
-  other : (tell : List ℕ → ℕ → Told) → ((b : List ℕ) (n : ℕ) → kind (tell b n) ≡ []) → (n : ℕ) (ps : List (List ℕ)) → all_in kind (numbered tell n ps) ≡ []
-  unfolding all_in numbered
+  other : (tell : List ℕ → ℕ → Told) → ((b : List ℕ) (n : ℕ) → kind (tell b n) ≡ []) → (n : ℕ) (ps : List (List ℕ)) → flat_map kind (numbered tell n ps) ≡ []
+  unfolding numbered
   other tell h n [] = refl
-  other tell h n (p ∷ ps) = ap (λ (l : List X). l ++ all_in kind (numbered tell (suc n) ps)) (h p n) ∙ other tell h (suc n) ps
+  other tell h n (p ∷ ps) = ap (λ (l : List X). l ++ flat_map kind (numbered tell (suc n) ps)) (h p n) ∙ other tell h (suc n) ps
 
-  three : (ts us vs : List Told) → all_in kind (ts ++ (us ++ vs)) ≡ all_in kind ts ++ (all_in kind us ++ all_in kind vs)
-  three ts us vs = all_append ts (us ++ vs) ∙ ap (λ (l : List X). all_in kind ts ++ l) (all_append us vs)
+  three : (ts us vs : List Told) → flat_map kind (ts ++ (us ++ vs)) ≡ flat_map kind ts ++ (flat_map kind us ++ flat_map kind vs)
+  three ts us vs = flat_map-append kind ts (us ++ vs) ∙ ap (λ (l : List X). flat_map kind ts ++ l) (flat_map-append kind us vs)
 
 -- the records that a header announces say what the file says
 pub gathers : (h : Header) (rest : List ℕ) → gathered h (told_after h rest) ≡ year_after h rest
@@ -54,11 +50,11 @@ gathers h rest =
     let p = numbered a_point 0 ps in
     let e = numbered an_element (0 + h.points) es in
     let u = numbered a_use (0 + h.points + h.elements) us in
-    let points : all_in point_in (p ++ (e ++ u)) ≡ map point_of ps =
+    let points : flat_map point_in (p ++ (e ++ u)) ≡ map point_of ps =
     three point_in p e u ∙ (rw (own point_in a_point point_of (λ b n. refl) 0 ps, other point_in an_element (λ b n. refl) (0 + h.points) es, other point_in a_use (λ b n. refl) (0 + h.points + h.elements) us) (append-nil (map point_of ps))) in
-    let elements : all_in element_in (p ++ (e ++ u)) ≡ map element_of es =
+    let elements : flat_map element_in (p ++ (e ++ u)) ≡ map element_of es =
     three element_in p e u ∙ (rw (other element_in a_point (λ b n. refl) 0 ps, own element_in an_element element_of (λ b n. refl) (0 + h.points) es, other element_in a_use (λ b n. refl) (0 + h.points + h.elements) us) (append-nil (map element_of es))) in
-    let uses : all_in use_in (p ++ (e ++ u)) ≡ map use_of us =
+    let uses : flat_map use_in (p ++ (e ++ u)) ≡ map use_of us =
     three use_in p e u ∙ (rw (other use_in a_point (λ b n. refl) 0 ps, other use_in an_element (λ b n. refl) (0 + h.points) es, own use_in a_use use_of (λ b n. refl) (0 + h.points + h.elements) us) refl) in
     rw (points, elements, uses)
 
@@ -114,8 +110,8 @@ element_kept n bs h =
     (k.0.1.1, k.1.0.1.0, k.1.0.1.1, k.1.1.0.1.1)
 
 -- every record that came without a fault keeps its ranges
-all_keep : (ts : List Told) → None ≡ first_told_fault ts → AllByRecursion IdentifierIn (all_in point_in ts) × AllByRecursion RatingIn (all_in element_in ts)
-unfolding first_told_fault all_in
+all_keep : (ts : List Told) → None ≡ first_told_fault ts → AllByRecursion IdentifierIn (flat_map point_in ts) × AllByRecursion RatingIn (flat_map element_in ts)
+unfolding first_told_fault
 all_keep [] h = (tt, tt)
 all_keep (a_point bs n ∷ ts) h =
     let o = or_none (point_fault (n + 1) bs) _ h in

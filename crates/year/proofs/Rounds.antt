@@ -1,6 +1,6 @@
 -- A year and its file determine each other. Assumes nothing.
 use Rattle.std.proofs.Common.{◌≡◌, ℕ, suc, ◌+◌, ◌-◌, ◌*◌, ◌%◌, ◌<◌, ◌≤◌, false, ltb, List, [], ◌∷◌, ◌++◌, map, length, get_or, take, drop, ℤ, pos, negsuc, nat_abs, IfOk, Some, None, Ok, Err, Option, Result, sym, refl, ap, ◌∙◌, inl, inr, append-nil, arith, length-append, MatchResult}
-use Rattle.std.specs.List.{AllByRecursion}
+use Rattle.std.specs.List.{AllByRecursion, flat_map}
 use Rattle.std.proofs.ByRecursion.{All-from_get_or}
 use Rattle.std.proofs.lemmas.List.{take-append-drop, length-drop, length-take-le, drop_all, drop-drop, take_at, drop_at}
 use Rattle.std.proofs.lemmas.List.Sums.{get_or-le-sum_by}
@@ -33,7 +33,6 @@ use Rattle.records.proofs.UseLaws.{use_lawful}
 use Rattle.year.proofs.Reading.{counts, ranges, limits}
 use Rattle.year.specs.YearBytes.{year_bytes, Sound}
 use Rattle.year.specs.YearFile.{year_after, year_of, first_fault}
-use Rattle.yearfile.specs.Bytes.{all_bytes}
 use Rattle.yearfile.specs.File.{announced, length_fault, told_after}
 use Rattle.yearfile.specs.Told.{a_point, an_element, a_use, parts, numbered, first_told_fault}
 use Rattle.yearfile.proofs.Parting.{bytes_drop, bytes_take, none_told, told_none, length_all, parts_all, past_all, read_back, none_back, write_back}
@@ -127,7 +126,7 @@ module _ (d : YearData) (so : Sound d) where
 
 -- the records of a year without its header
 abbrev body : YearData → List ℕ
-body d = all_bytes point_bytes d.points ++ (all_bytes element_bytes d.elements ++ all_bytes use_bytes d.uses)
+body d = flat_map point_bytes d.points ++ (flat_map element_bytes d.elements ++ flat_map use_bytes d.uses)
 
 -- records that keep their ranges, of a kind that sets no further limits
 ranged : {X : Type 0} {P Q : X → Type 0} (xs : List X) → ((x : X) → P x → Q x) → AllByRecursion P xs → AllByRecursion Q xs
@@ -165,31 +164,31 @@ module _ (d : YearData) (so : Sound d) where
 
   point_parts : parts 15 h.points (body d) ≡ map point_bytes ps
   unfolding point_form
-  point_parts = ap (λ (n : ℕ). parts 15 n (body d)) so.counted.0 ∙ parts_all point_form ps (all_bytes element_bytes es ++ all_bytes use_bytes us)
+  point_parts = ap (λ (n : ℕ). parts 15 n (body d)) so.counted.0 ∙ parts_all point_form ps (flat_map element_bytes es ++ flat_map use_bytes us)
 
-  past_points : drop (15 * h.points) (body d) ≡ all_bytes element_bytes es ++ all_bytes use_bytes us
+  past_points : drop (15 * h.points) (body d) ≡ flat_map element_bytes es ++ flat_map use_bytes us
   unfolding point_form
-  past_points = ap (λ (n : ℕ). drop (15 * n) (body d)) so.counted.0 ∙ past_all point_form ps (all_bytes element_bytes es ++ all_bytes use_bytes us)
+  past_points = ap (λ (n : ℕ). drop (15 * n) (body d)) so.counted.0 ∙ past_all point_form ps (flat_map element_bytes es ++ flat_map use_bytes us)
 
   element_parts : parts 9 h.elements (drop (15 * h.points) (body d)) ≡ map element_bytes es
   unfolding element_form
   element_parts =
       ap (parts 9 h.elements) past_points
-      ∙ (ap (λ (n : ℕ). parts 9 n (all_bytes element_bytes es ++ all_bytes use_bytes us)) so.counted.1 ∙ parts_all element_form es (all_bytes use_bytes us))
+      ∙ (ap (λ (n : ℕ). parts 9 n (flat_map element_bytes es ++ flat_map use_bytes us)) so.counted.1 ∙ parts_all element_form es (flat_map use_bytes us))
 
-  past_elements : drop (15 * h.points + 9 * h.elements) (body d) ≡ all_bytes use_bytes us
+  past_elements : drop (15 * h.points + 9 * h.elements) (body d) ≡ flat_map use_bytes us
   unfolding element_form
   past_elements =
       sym (drop-drop (9 * h.elements) (15 * h.points) (body d))
       ∙ (ap (drop (9 * h.elements)) past_points
-      ∙ (ap (λ (n : ℕ). drop (9 * n) (all_bytes element_bytes es ++ all_bytes use_bytes us)) so.counted.1 ∙ past_all element_form es (all_bytes use_bytes us)))
+      ∙ (ap (λ (n : ℕ). drop (9 * n) (flat_map element_bytes es ++ flat_map use_bytes us)) so.counted.1 ∙ past_all element_form es (flat_map use_bytes us)))
 
   use_parts : parts 5 h.uses (drop (15 * h.points + 9 * h.elements) (body d)) ≡ map use_bytes us
   unfolding use_form
   use_parts =
       ap (parts 5 h.uses) past_elements
-      ∙ (ap (λ (n : ℕ). parts 5 n (all_bytes use_bytes us)) so.counted.2
-      ∙ (ap (parts 5 (length us)) (sym (append-nil (all_bytes use_bytes us))) ∙ parts_all use_form us []))
+      ∙ (ap (λ (n : ℕ). parts 5 n (flat_map use_bytes us)) so.counted.2
+      ∙ (ap (parts 5 (length us)) (sym (append-nil (flat_map use_bytes us))) ∙ parts_all use_form us []))
 
   year_back : year_after h (body d) ≡ d
   year_back = rw (point_parts, element_parts, use_parts, read_back point_form point_lawful ps points_ranged, read_back element_form element_lawful es elements_ranged, read_back use_form use_lawful us uses_ranged)
@@ -294,27 +293,27 @@ module _ (file : List ℕ) (bytes : Bytes file) (fine : None ≡ first_fault fil
       let n = elements_none.1 ∙ ap first_told_fault (sym (append-nil (numbered a_use (0 + hd.points + hd.elements) (parts 5 hd.uses last)))) in
       (told_none a_use (0 + hd.points + hd.elements) (parts 5 hd.uses last) [] n).0
 
-  points_back : all_bytes point_bytes (map point_of (parts 15 hd.points rest)) ++ mid ≡ rest
+  points_back : flat_map point_bytes (map point_of (parts 15 hd.points rest)) ++ mid ≡ rest
   unfolding point_form
   points_back = write_back point_form point_lawful hd.points rest (omega (arith, length_rest)) rest_bytes points_none.0
 
   after_mid : drop (9 * hd.elements) mid ≡ last
   after_mid = drop-drop (9 * hd.elements) (15 * hd.points) rest
 
-  elements_back : all_bytes element_bytes (map element_of (parts 9 hd.elements mid)) ++ last ≡ mid
+  elements_back : flat_map element_bytes (map element_of (parts 9 hd.elements mid)) ++ last ≡ mid
   unfolding element_form
   elements_back =
       let l : 9 * hd.elements ≤ length mid = omega (arith, length_rest, length-drop (15 * hd.points) rest) in
-      ap (λ (bs : List ℕ). all_bytes element_bytes (map element_of (parts 9 hd.elements mid)) ++ bs) (sym after_mid)
+      ap (λ (bs : List ℕ). flat_map element_bytes (map element_of (parts 9 hd.elements mid)) ++ bs) (sym after_mid)
       ∙ write_back element_form element_lawful hd.elements mid l (bytes_drop (15 * hd.points) rest rest_bytes) elements_none.0
 
-  uses_back : all_bytes use_bytes (map use_of (parts 5 hd.uses last)) ≡ last
+  uses_back : flat_map use_bytes (map use_of (parts 5 hd.uses last)) ≡ last
   unfolding use_form
   uses_back =
       let n : length last ≡ 5 * hd.uses = omega (arith, length_rest, length-drop (15 * hd.points + 9 * hd.elements) rest) in
       let none : drop (5 * hd.uses) last ≡ [] = drop_all (5 * hd.uses) last (omega (arith, n)) in
       let w = write_back use_form use_lawful hd.uses last (omega (arith, n)) (bytes_drop (15 * hd.points + 9 * hd.elements) rest rest_bytes) uses_none in
-      sym (append-nil _) ∙ (ap (λ (bs : List ℕ). all_bytes use_bytes (map use_of (parts 5 hd.uses last)) ++ bs) (sym none) ∙ w)
+      sym (append-nil _) ∙ (ap (λ (bs : List ℕ). flat_map use_bytes (map use_of (parts 5 hd.uses last)) ++ bs) (sym none) ∙ w)
 
   pub read_then_written : year_bytes (year_of file) ≡ file
   read_then_written = rw (uses_back, elements_back, points_back, ← head_is) (take-append-drop 27 file)

@@ -1,5 +1,6 @@
 -- A year's file laid into a buffer part by part. Assumes nothing.
 use Rattle.std.proofs.Common.{◌≡◌, ℕ, ◌+◌, ◌*◌, ◌<◌, ◌≤◌, true, false, eqb, ltb, List, ◌++◌, length, drop, Some, None, sym, ap, ◌∙◌, append_assoc, zero-add, arith, length-append}
+use Rattle.std.specs.List.{flat_map}
 use Rattle.std.proofs.lemmas.Bool.Decides.{nat_tests}
 use Rattle.agreement.specs.Data.{YearData}
 use Rattle.bits.specs.Laid.{over}
@@ -12,7 +13,7 @@ use Rattle.records.specs.Uses.{use_bytes, use_form}
 use Rattle.year.specs.Holds.{contents}
 use Rattle.year.specs.YearBytes.{year_bytes, write_refusal, Sound}
 use Rattle.year.specs.declared.year.Year.{Year}
-use Rattle.yearfile.specs.Bytes.{all_bytes, laid_at}
+use Rattle.yearfile.specs.Bytes.{laid_at}
 use Rattle.yearfile.proofs.Laying.{laid_more}
 use Rattle.yearfile.proofs.Parting.{length_all}
 
@@ -40,15 +41,15 @@ module _ (d : YearData) where
   unfolding header_form
   length_header = length_record header_form d.header
 
-  pub length-points : length (all_bytes point_bytes d.points) ≡ 15 * length d.points
+  pub length-points : length (flat_map point_bytes d.points) ≡ 15 * length d.points
   unfolding point_form
   length-points = length_all point_form d.points
 
-  pub length_elements : length (all_bytes element_bytes d.elements) ≡ 9 * length d.elements
+  pub length_elements : length (flat_map element_bytes d.elements) ≡ 9 * length d.elements
   unfolding element_form
   length_elements = length_all element_form d.elements
 
-  pub length_uses : length (all_bytes use_bytes d.uses) ≡ 5 * length d.uses
+  pub length_uses : length (flat_map use_bytes d.uses) ≡ 5 * length d.uses
   unfolding use_form
   length_uses = length_all use_form d.uses
 

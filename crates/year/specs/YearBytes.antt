@@ -1,5 +1,6 @@
 -- The file of a year, and why it is not written.
 use Rattle.std.specs.Prelude.{ℕ, ◌<◌, cond, List, ◌++◌, length, Some, None, Option, ◌==◌, nat_lt}
+use Rattle.std.specs.List.{flat_map}
 use Rattle.agreement.specs.Data.{YearData, Few}
 use Rattle.agreement.specs.Limits.{Distinct, Named, Rising, Within, UsedWithin, Priced}
 use Rattle.bits.specs.declared.refusal.Refusal.{Refusal}
@@ -9,15 +10,14 @@ use Rattle.records.specs.Headers.{header_bytes}
 use Rattle.records.specs.Points.{point_bytes}
 use Rattle.records.specs.Uses.{use_bytes}
 use Rattle.year.specs.Ranges.{Counted, Figures, Dated, Identified, Rated}
-use Rattle.yearfile.specs.Bytes.{all_bytes}
 
 -- the header, the points, the elements, the uses
 abbrev pub year_bytes : YearData → List ℕ
 year_bytes d =
     header_bytes d.header
-    ++ (all_bytes point_bytes d.points
-    ++ (all_bytes element_bytes d.elements
-    ++ all_bytes use_bytes d.uses))
+    ++ (flat_map point_bytes d.points
+    ++ (flat_map element_bytes d.elements
+    ++ flat_map use_bytes d.uses))
 
 -- 21, then 9
 abbrev pub write_refusal : YearData → ℕ → Option Refusal

@@ -1,14 +1,16 @@
 -- Bytes laid one after another. Assumes nothing.
 use Rattle.std.proofs.Common.{◌≡◌, ℕ, ◌+◌, ◌-◌, ◌<◌, ◌≤◌, List, [], ◌∷◌, ◌++◌, length, get_or, take, drop, Some, None, Option, sym, refl, ap, ◌∙◌, append_assoc, append-nil, add-zero, arith, length-append}
+use Rattle.std.specs.List.{flat_map}
 use borrow.Rule.Slice.PartMut.{put_mid}
-use Rattle.std.proofs.lemmas.List.{take-append-drop, take_more, take_rest, drop_all, length-take-le, length-drop, drop-drop, take_at, drop_at}
+use Rattle.std.proofs.lemmas.List.{take-append-drop, flat_map_more, take_more, take_rest, drop_all, length-take-le, length-drop, drop-drop, take_at, drop_at}
+use Rattle.std.proofs.lemmas.List.Folds.{length-flat_map-take}
 use Rattle.std.proofs.lemmas.Bool.Decides.{nat_tests}
 use Rattle.bits.specs.Forms.{Form, record_bytes, record_refusal, InRange}
 use Rattle.bits.specs.Laid.{◌or_else◌, room_fault, over}
 use Rattle.bits.specs.declared.fault.Fault.{Fault}
 use Rattle.bits.proofs.Laws.{none_bad}
 use Rattle.bits.proofs.Trips.{length_record}
-use Rattle.yearfile.specs.Bytes.{all_bytes, laid_at}
+use Rattle.yearfile.specs.Bytes.{laid_at}
 
 -- a record that keeps its ranges is written wherever there is room
 pub written : {X : Type 0} (F : Form X) (place room : ℕ) (x : X) → InRange F x → F.size ≤ room → None ≡ record_refusal F place x room
@@ -56,43 +58,27 @@ laid_more at a b buffer h =
     rw (t, p, q) (simp append_assoc)
 
 module _ {X : Type 0} (bytes : X → List ℕ) where
-  pub all_append : (xs ys : List X) → all_bytes bytes (xs ++ ys) ≡ all_bytes bytes xs ++ all_bytes bytes ys
-  unfolding all_bytes
-  all_append [] ys = refl
-  all_append (x ∷ xs) ys = ap (λ (l : List ℕ). bytes x ++ l) (all_append xs ys) ∙ sym (append_assoc (bytes x) (all_bytes bytes xs) (all_bytes bytes ys))
-
-  -- the bytes of one record more
-  all_more : (xs : List X) (i : ℕ) (x : X) → i < length xs → x ≡ get_or xs i x → all_bytes bytes (take (i + 1) xs) ≡ all_bytes bytes (take i xs) ++ bytes x
-  unfolding all_bytes
-  all_more xs i x h e =
-      ap (all_bytes bytes) (take_more xs i x h)
-      ∙ (all_append (take i xs) (get_or xs i x ∷ [])
-      ∙ ap (λ (l : List ℕ). all_bytes bytes (take i xs) ++ l) (append-nil (bytes (get_or xs i x)) ∙ ap bytes (sym e)))
-
-  all_within : (xs : List X) (i : ℕ) → length (all_bytes bytes (take i xs)) ≤ length (all_bytes bytes xs)
-  all_within xs i =
-      let e = ap (λ (l : List X). length (all_bytes bytes l)) (take-append-drop i xs) in
-      let g = ap length (all_append (take i xs) (drop i xs)) in
-      omega (arith, e, g, length-append (all_bytes bytes (take i xs)) (all_bytes bytes (drop i xs)))
-
   -- the first i records are laid
   pub record Laid (xs : List X) (at i end : ℕ) (before now : List ℕ) : Type 0 where
-    pub buffer : now ≡ laid_at at (all_bytes bytes (take i xs)) before
-    pub ended : end ≡ at + length (all_bytes bytes (take i xs))
+    pub buffer : now ≡ laid_at at (flat_map bytes (take i xs)) before
+    pub ended : end ≡ at + length (flat_map bytes (take i xs))
 
-  module _ (xs : List X) (at i end : ℕ) (before now : List ℕ) (so : Laid xs at i end before now) (room : at + length (all_bytes bytes xs) ≤ length before) (x : X) (h : i < length xs) (e : x ≡ get_or xs i x) where
-    longer : length (all_bytes bytes (take (i + 1) xs)) ≡ length (all_bytes bytes (take i xs)) + length (bytes x)
-    longer = ap length (all_more xs i x h e) ∙ length-append (all_bytes bytes (take i xs)) (bytes x)
+  module _ (xs : List X) (at i end : ℕ) (before now : List ℕ) (so : Laid xs at i end before now) (room : at + length (flat_map bytes xs) ≤ length before) (x : X) (h : i < length xs) (e : x ≡ get_or xs i x) where
+    more : flat_map bytes (take (i + 1) xs) ≡ flat_map bytes (take i xs) ++ bytes x
+    more = ap (flat_map bytes) (take_more xs i x h ∙ ap (λ (y : X). take i xs ++ y ∷ []) (sym e)) ∙ sym (flat_map_more bytes [] (take i xs) x)
 
     pub lay_room : length now ≡ length before → end + length (bytes x) ≤ length now
-    lay_room n = omega (arith, longer, all_within xs (i + 1))
+    lay_room n =
+        let l = length-flat_map-take bytes xs i x h in
+        let k = ap (λ (y : X). length (bytes y)) e in
+        omega arith
 
     pub lay_more : (next : ℕ) (after : List ℕ) → after ≡ laid_at end (bytes x) now → next ≡ end + length (bytes x) → Laid xs at (i + 1) next before after
     lay_more next after a n =
-        let m = all_more xs i x h e in
-        let q : after ≡ laid_at (at + length (all_bytes bytes (take i xs))) (bytes x) (laid_at at (all_bytes bytes (take i xs)) before) =
-        a ∙ (ap (λ (k : ℕ). laid_at k (bytes x) now) so.ended ∙ ap (λ (l : List ℕ). laid_at (at + length (all_bytes bytes (take i xs))) (bytes x) l) so.buffer) in
+        let q : after ≡ laid_at (at + length (flat_map bytes (take i xs))) (bytes x) (laid_at at (flat_map bytes (take i xs)) before) =
+        a ∙ (ap (λ (k : ℕ). laid_at k (bytes x) now) so.ended ∙ ap (λ (l : List ℕ). laid_at (at + length (flat_map bytes (take i xs))) (bytes x) l) so.buffer) in
+        let m = simp length-append at (ap length more) in
         record {
-          buffer = q ∙ (laid_more at (all_bytes bytes (take i xs)) (bytes x) before (omega arith) ∙ ap (λ (l : List ℕ). laid_at at l before) (sym m));
-          ended = omega (arith, longer);
+          buffer = q ∙ (laid_more at (flat_map bytes (take i xs)) (bytes x) before (omega arith) ∙ ap (λ (l : List ℕ). laid_at at l before) (sym more));
+          ended = omega arith;
         }

@@ -1,13 +1,12 @@
 -- Records of one kind, written one after another and taken apart again. Assumes nothing.
 use Rattle.std.proofs.Common.{◌≡◌, ℕ, zero, suc, ◌+◌, ◌*◌, ◌≤◌, List, [], ◌∷◌, ◌++◌, map, length, take, drop, Some, None, Option, sym, refl, ap, ◌∙◌, append_assoc, mul-zero, mul-suc, arith, length-append}
-use Rattle.std.specs.List.{AllByRecursion}
+use Rattle.std.specs.List.{AllByRecursion, flat_map}
 use Rattle.std.proofs.lemmas.List.{take-append-drop, length-take-le, length-drop, drop-drop, take_at, drop_at}
 use Rattle.bits.specs.Forms.{Form, record_of, record_fault, record_bytes, InRange}
 use Rattle.bits.specs.Laid.{◌or_else◌}
 use Rattle.bits.specs.declared.fault.Fault.{Fault}
 use Rattle.bits.proofs.Digits.{Bytes}
 use Rattle.bits.proofs.Trips.{Lawful, length_record, written_read, read_written}
-use Rattle.yearfile.specs.Bytes.{all_bytes}
 use Rattle.yearfile.specs.Told.{Told, parts, numbered, told_fault, first_told_fault}
 
 pub bytes_drop : (n : ℕ) (bs : List ℕ) → Bytes bs → Bytes (drop n bs)
@@ -42,24 +41,23 @@ module _ (kind : List ℕ → ℕ → Told) where
       (((n, o.0), r.0), r.1)
 
 module _ {X : Type 0} (F : Form X) where
-  pub length_all : (xs : List X) → length (all_bytes (record_bytes F) xs) ≡ F.size * length xs
-  unfolding all_bytes
+  pub length_all : (xs : List X) → length (flat_map (record_bytes F) xs) ≡ F.size * length xs
   length_all [] = sym (mul-zero F.size)
   length_all (x ∷ xs) = simp length-append (omega (arith, length_record F x, length_all xs, mul-suc F.size (length xs)))
 
   -- what was written one after another is taken apart into the same records
-  pub parts_all : (xs : List X) (rest : List ℕ) → parts F.size (length xs) (all_bytes (record_bytes F) xs ++ rest) ≡ map (record_bytes F) xs
-  unfolding parts all_bytes
+  pub parts_all : (xs : List X) (rest : List ℕ) → parts F.size (length xs) (flat_map (record_bytes F) xs ++ rest) ≡ map (record_bytes F) xs
+  unfolding parts
   parts_all [] rest = refl
   parts_all (x ∷ xs) rest =
-      let e = append_assoc (record_bytes F x) (all_bytes (record_bytes F) xs) rest in
+      let e = append_assoc (record_bytes F x) (flat_map (record_bytes F) xs) rest in
       let n = length_record F x in
-      let t : take F.size (record_bytes F x ++ (all_bytes (record_bytes F) xs ++ rest)) ≡ record_bytes F x = take_at (record_bytes F x) _ F.size n in
-      let d : drop F.size (record_bytes F x ++ (all_bytes (record_bytes F) xs ++ rest)) ≡ all_bytes (record_bytes F) xs ++ rest = drop_at (record_bytes F x) _ F.size n in
+      let t : take F.size (record_bytes F x ++ (flat_map (record_bytes F) xs ++ rest)) ≡ record_bytes F x = take_at (record_bytes F x) _ F.size n in
+      let d : drop F.size (record_bytes F x ++ (flat_map (record_bytes F) xs ++ rest)) ≡ flat_map (record_bytes F) xs ++ rest = drop_at (record_bytes F x) _ F.size n in
       rw (e, t, d, parts_all xs rest)
 
-  pub past_all : (xs : List X) (rest : List ℕ) → drop (F.size * length xs) (all_bytes (record_bytes F) xs ++ rest) ≡ rest
-  past_all xs rest = drop_at (all_bytes (record_bytes F) xs) rest (F.size * length xs) (length_all xs)
+  pub past_all : (xs : List X) (rest : List ℕ) → drop (F.size * length xs) (flat_map (record_bytes F) xs ++ rest) ≡ rest
+  past_all xs rest = drop_at (flat_map (record_bytes F) xs) rest (F.size * length xs) (length_all xs)
 
   module _ (law : Lawful F) where
     -- records in their ranges are read back from their bytes, without a fault
@@ -73,8 +71,8 @@ module _ {X : Type 0} (F : Form X) where
 
     -- parts without a fault are the bytes of the records in them
     pub write_back : (n : ℕ) (bs : List ℕ) → F.size * n ≤ length bs → Bytes bs → AllByRecursion (λ b. (k : ℕ) × (None ≡ record_fault F (k + 1) b)) (parts F.size n bs)
-        → all_bytes (record_bytes F) (map (record_of F) (parts F.size n bs)) ++ drop (F.size * n) bs ≡ bs
-    unfolding parts all_bytes
+        → flat_map (record_bytes F) (map (record_of F) (parts F.size n bs)) ++ drop (F.size * n) bs ≡ bs
+    unfolding parts
     write_back zero bs l b h = rw mul-zero
     write_back (suc n) bs l b h =
         let m = mul-suc F.size n in

@@ -67,10 +67,6 @@ use_in (a_point bytes place) = []
 use_in (an_element bytes place) = []
 use_in (a_use bytes place) = use_of bytes ∷ []
 
-unfoldable pub all_in : {X : Type 0} → (Told → List X) → List Told → List X
-all_in kind [] = []
-all_in kind (t ∷ ts) = kind t ++ all_in kind ts
-
 -- what the code tells, and what a stream has still to tell
 abbrev pub told : Record → Told
 told (variants.Point bytes place) = a_point bytes.now place

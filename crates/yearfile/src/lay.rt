@@ -1,11 +1,11 @@
 // Records laid into a buffer one after another.
 ghost use Rattle.std.specs.Prelude.{◌≡◌, ℕ, ◌+◌, ◌≤◌, List, length};
-ghost use Rattle.std.specs.List.{AllByRecursion};
+ghost use Rattle.std.specs.List.{AllByRecursion, flat_map};
 ghost use Rattle.records.specs.Elements.{element_bytes, ElementIn};
 ghost use Rattle.records.specs.Headers.{header_bytes, HeaderIn};
 ghost use Rattle.records.specs.Points.{point_bytes, PointIn};
 ghost use Rattle.records.specs.Uses.{use_bytes, UseIn};
-ghost use Rattle.yearfile.specs.Bytes.{all_bytes, laid_at};
+ghost use Rattle.yearfile.specs.Bytes.{laid_at};
 
 use records::element::Element;
 use records::header::Header;
@@ -81,9 +81,9 @@ impl Lay for NetworkUse {
 // Lays records one after another from `at` on, and answers where they end.
 pub fn lay_all<T: Lay>(items: &[T], buffer: &mut [u8], at: usize) -> usize
     requires ranged { AllByRecursion T.ranged items.now }
-    requires room { at + length (all_bytes T.bytes items.now) ≤ length buffer.old }
-    ensures after { buffer.new ≡ laid_at at (all_bytes T.bytes items.now) buffer.old }
-    ensures end { result ≡ at + length (all_bytes T.bytes items.now) }
+    requires room { at + length (flat_map T.bytes items.now) ≤ length buffer.old }
+    ensures after { buffer.new ≡ laid_at at (flat_map T.bytes items.now) buffer.old }
+    ensures end { result ≡ at + length (flat_map T.bytes items.now) }
 {
     let mut end = at;
     for item in items {

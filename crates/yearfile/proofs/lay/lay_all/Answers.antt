@@ -1,12 +1,12 @@
 use Rattle.std.proofs.Common.{◌+◌, length, sym, ap, ◌∙◌, subst, arith}
+use Rattle.std.specs.List.{flat_map}
 use Rattle.std.proofs.ByRecursion.{All-get_or}
 use Rattle.std.proofs.lemmas.List.{take_all}
-use Rattle.yearfile.specs.Bytes.{all_bytes, laid_at}
+use Rattle.yearfile.specs.Bytes.{laid_at}
 use Rattle.yearfile.proofs.Laying.{laid_none, lay_room, lay_more}
 use Rattle.yearfile.proofs.lay.lay_all.Goals as goal
 
 pub loop-item-init : goal.loop-item-init
-unfolding all_bytes
 loop-item-init g c = record { buffer = laid_none c.args.at c.args.buffer.now; ended = omega arith }
 
 pub lay-end-requires : goal.lay-end-requires
@@ -25,6 +25,6 @@ pub returns : goal.returns
 returns g c =
     let e = take_all c.loop-item.item-index c.args.items.now c.loop-item-test.false in
     record {
-      after = c.loop-item.invariant.buffer ∙ ap (λ l. laid_at c.args.at (all_bytes g.T.Lay.bytes l) c.args.buffer.now) e;
-      end = c.loop-item.invariant.ended ∙ ap (λ l. c.args.at + length (all_bytes g.T.Lay.bytes l)) e;
+      after = c.loop-item.invariant.buffer ∙ ap (λ l. laid_at c.args.at (flat_map g.T.Lay.bytes l) c.args.buffer.now) e;
+      end = c.loop-item.invariant.ended ∙ ap (λ l. c.args.at + length (flat_map g.T.Lay.bytes l)) e;
     }
