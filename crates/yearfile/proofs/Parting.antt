@@ -1,13 +1,14 @@
 -- Records of one kind, written one after another and taken apart again. Assumes nothing.
 use Rattle.std.proofs.Common.{◌≡◌, ℕ, zero, suc, ◌+◌, ◌*◌, ◌≤◌, List, [], ◌∷◌, ◌++◌, map, length, take, drop, Some, None, Option, sym, refl, ap, ◌∙◌, append_assoc, mul-zero, mul-suc, arith, length-append}
 use Rattle.std.specs.List.{AllByRecursion, flat_map}
+use Rattle.std.specs.Simd.{first_chunks}
 use Rattle.std.proofs.lemmas.List.{take-append-drop, length-take-le, length-drop, drop-drop, take_at, drop_at}
 use Rattle.bits.specs.Forms.{Form, record_of, record_fault, record_bytes, InRange}
 use Rattle.bits.specs.Laid.{◌or_else◌}
 use Rattle.bits.specs.declared.fault.Fault.{Fault}
 use Rattle.bits.proofs.Digits.{Bytes}
 use Rattle.bits.proofs.Trips.{Lawful, length_record, written_read, read_written}
-use Rattle.yearfile.specs.Told.{Told, parts, numbered, told_fault, first_told_fault}
+use Rattle.yearfile.specs.Told.{Told, numbered, told_fault, first_told_fault}
 
 pub bytes_drop : (n : ℕ) (bs : List ℕ) → Bytes bs → Bytes (drop n bs)
 bytes_drop zero bs h i = h i
@@ -25,19 +26,18 @@ or_none None g h = (refl, h)
 or_none (Some f) g h = (h, grind arith)
 
 -- parts without a fault, whatever their place
-module _ (kind : List ℕ → ℕ → Told) where
-  pub none_told : (n : ℕ) (ps : List (List ℕ)) (ts : List Told) → AllByRecursion (λ b. (k : ℕ) → told_fault (kind b k) ≡ None) ps → first_told_fault (numbered kind n ps ++ ts) ≡ first_told_fault ts
-  unfolding numbered first_told_fault
-  none_told n [] ts h = refl
-  none_told n (p ∷ ps) ts h =
-      ap (λ (o : Option Fault). o or_else first_told_fault (numbered kind (suc n) ps ++ ts)) (h.0 n) ∙ none_told (suc n) ps ts h.1
+module _ (kind : List ℕ → ℕ → Told) (ts : List (ℕ → Told)) where
+  pub none_told : (ps : List (List ℕ)) → AllByRecursion (λ b. (k : ℕ) → told_fault (kind b k) ≡ None) ps → ((n : ℕ) → first_told_fault (numbered n ts) ≡ None) → (n : ℕ) → first_told_fault (numbered n (map kind ps ++ ts)) ≡ None
+  unfolding first_told_fault
+  none_told [] h t n = t n
+  none_told (p ∷ ps) h t n = rw (h.0 n) (none_told ps h.1 t (n + 1))
 
-  pub told_none : (n : ℕ) (ps : List (List ℕ)) (ts : List Told) → None ≡ first_told_fault (numbered kind n ps ++ ts) → AllByRecursion (λ b. (k : ℕ) × (None ≡ told_fault (kind b k))) ps × (None ≡ first_told_fault ts)
-  unfolding numbered first_told_fault
-  told_none n [] ts h = (tt, h)
-  told_none n (p ∷ ps) ts h =
-      let o = or_none (told_fault (kind p n)) (first_told_fault (numbered kind (suc n) ps ++ ts)) h in
-      let r = told_none (suc n) ps ts o.1 in
+  pub told_none : (n : ℕ) (ps : List (List ℕ)) → None ≡ first_told_fault (numbered n (map kind ps ++ ts)) → AllByRecursion (λ b. (k : ℕ) × (None ≡ told_fault (kind b k))) ps × ((m : ℕ) × (None ≡ first_told_fault (numbered m ts)))
+  unfolding first_told_fault
+  told_none n [] h = (tt, (n, h))
+  told_none n (p ∷ ps) h =
+      let o = or_none (told_fault (kind p n)) (first_told_fault (numbered (n + 1) (map kind ps ++ ts))) h in
+      let r = told_none (n + 1) ps o.1 in
       (((n, o.0), r.0), r.1)
 
 module _ {X : Type 0} (F : Form X) where
@@ -46,8 +46,7 @@ module _ {X : Type 0} (F : Form X) where
   length_all (x ∷ xs) = simp length-append (omega (arith, length_record F x, length_all xs, mul-suc F.size (length xs)))
 
   -- what was written one after another is taken apart into the same records
-  pub parts_all : (xs : List X) (rest : List ℕ) → parts F.size (length xs) (flat_map (record_bytes F) xs ++ rest) ≡ map (record_bytes F) xs
-  unfolding parts
+  pub parts_all : (xs : List X) (rest : List ℕ) → first_chunks F.size (length xs) (flat_map (record_bytes F) xs ++ rest) ≡ map (record_bytes F) xs
   parts_all [] rest = refl
   parts_all (x ∷ xs) rest =
       let e = append_assoc (record_bytes F x) (flat_map (record_bytes F) xs) rest in
@@ -70,9 +69,8 @@ module _ {X : Type 0} (F : Form X) where
     none_back (x ∷ xs) h = ((λ k. (written_read F law (k + 1) x h.0).0), none_back xs h.1)
 
     -- parts without a fault are the bytes of the records in them
-    pub write_back : (n : ℕ) (bs : List ℕ) → F.size * n ≤ length bs → Bytes bs → AllByRecursion (λ b. (k : ℕ) × (None ≡ record_fault F (k + 1) b)) (parts F.size n bs)
-        → flat_map (record_bytes F) (map (record_of F) (parts F.size n bs)) ++ drop (F.size * n) bs ≡ bs
-    unfolding parts
+    pub write_back : (n : ℕ) (bs : List ℕ) → F.size * n ≤ length bs → Bytes bs → AllByRecursion (λ b. (k : ℕ) × (None ≡ record_fault F (k + 1) b)) (first_chunks F.size n bs)
+        → flat_map (record_bytes F) (map (record_of F) (first_chunks F.size n bs)) ++ drop (F.size * n) bs ≡ bs
     write_back zero bs l b h = rw mul-zero
     write_back (suc n) bs l b h =
         let m = mul-suc F.size n in

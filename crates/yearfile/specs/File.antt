@@ -1,9 +1,10 @@
 -- A year file: a header, and the records that it announces.
-use Rattle.std.specs.Prelude.{ℕ, ◌+◌, ◌*◌, List, length, Option}
+use Rattle.std.specs.Prelude.{ℕ, ◌+◌, ◌*◌, List, length, drop, Option}
+use Rattle.std.specs.Simd.{first_chunks}
 use Rattle.bits.specs.Faults.{wrong_length}
 use Rattle.bits.specs.declared.fault.Fault.{Fault}
 use Rattle.records.specs.declared.header.Header.{Header}
-use Rattle.yearfile.specs.Told.{Told, told_in}
+use Rattle.yearfile.specs.Told.{Told, in_order}
 
 -- the bytes of the records that a header announces
 abbrev pub announced : Header → ℕ
@@ -13,5 +14,10 @@ announced h = 15 * h.points + 9 * h.elements + 5 * h.uses
 abbrev pub length_fault : Header → List ℕ → Option Fault
 length_fault h rest = wrong_length (announced h) (length rest)
 
+-- the records that a header announces: points of 15 bytes, elements of 9, uses of 5
 abbrev pub told_after : Header → List ℕ → List Told
-told_after h rest = told_in h.points h.elements h.uses 0 rest
+told_after h rest =
+    in_order 0
+    (first_chunks 15 h.points rest)
+    (first_chunks 9 h.elements (drop (15 * h.points) rest))
+    (first_chunks 5 h.uses (drop (15 * h.points + 9 * h.elements) rest))

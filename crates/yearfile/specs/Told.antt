@@ -1,6 +1,7 @@
 -- The records of a year file, each told as a point, an element or a use with its bytes and its place in the file.
-use Rattle.std.specs.Prelude.{◌≡◌, ℕ, zero, suc, ◌+◌, ◌*◌, ◌^◌, ◌<◌, List, [], ◌∷◌, ◌++◌, take, drop, IfSome, None, Option}
+use Rattle.std.specs.Prelude.{◌≡◌, ℕ, ◌+◌, ◌^◌, ◌<◌, List, [], ◌∷◌, ◌++◌, map, IfSome, None, Option}
 use Rattle.std.specs.Option.{option_map, option_to_list}
+use Rattle.std.specs.Slice.Iter.{iter_rest}
 use Rattle.bits.specs.Laid.{◌or_else◌}
 use Rattle.bits.specs.declared.fault.Fault.{Fault}
 use Rattle.records.specs.Elements.{element_of, element_fault}
@@ -18,22 +19,15 @@ pub data Told : Type 0 where
   an_element : List ℕ → ℕ → Told
   a_use : List ℕ → ℕ → Told
 
--- the first `count` parts of `size` bytes each
-unfoldable pub parts : ℕ → ℕ → List ℕ → List (List ℕ)
-parts size zero bytes = []
-parts size (suc count) bytes = take size bytes ∷ parts size count (drop size bytes)
+-- records whose places count on from `place`
+abbrev pub numbered : ℕ → List (ℕ → Told) → List Told
+numbered place [] = []
+numbered place (at ∷ rest) = at place ∷ numbered (place + 1) rest
 
--- parts told as records of one kind, whose places count on from `place`
-unfoldable pub numbered : (List ℕ → ℕ → Told) → ℕ → List (List ℕ) → List Told
-numbered kind place [] = []
-numbered kind place (part ∷ rest) = kind part place ∷ numbered kind (suc place) rest
-
--- so many points, elements and uses, in this order, the first of them at `place`
-abbrev pub told_in : ℕ → ℕ → ℕ → ℕ → List ℕ → List Told
-told_in points elements uses place bytes =
-    numbered a_point place (parts 15 points bytes)
-    ++ (numbered an_element (place + points) (parts 9 elements (drop (15 * points) bytes))
-    ++ numbered a_use (place + points + elements) (parts 5 uses (drop (15 * points + 9 * elements) bytes)))
+-- points, elements and uses, in this order, the first of them at `place`
+abbrev pub in_order : ℕ → List (List ℕ) → List (List ℕ) → List (List ℕ) → List Told
+in_order place points elements uses =
+    numbered place (map (λ b n. a_point b n) points ++ (map (λ b n. an_element b n) elements ++ map (λ b n. a_use b n) uses))
 
 -- the first field of a record that breaks its range; the record at place 0 is record number 1
 abbrev pub told_fault : Told → Option Fault
@@ -74,7 +68,7 @@ told (variants.Element bytes place) = an_element bytes.now place
 told (variants.Use bytes place) = a_use bytes.now place
 
 abbrev pub to_come : Records → List Told
-to_come s = told_in s.points s.elements s.uses s.place s.rest.now
+to_come s = in_order s.place (iter_rest s.points) (iter_rest s.elements) (iter_rest s.uses)
 
 -- one step of a stream: what was to come is what it tells and what is then to come; it ends where nothing is to come
 pub record Tells (before : Records) (item : Option Record) (after : Records) : Type 0 where

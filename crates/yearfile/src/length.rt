@@ -7,13 +7,19 @@ use bits::fault::Fault;
 use bits::lengths::exactly;
 use records::header::Header;
 
+// The bytes of the records that a header announces.
+pub fn announced(header: &Header) -> usize
+    ensures { result ≡ announced header.now }
+{
+    15 * usize::from(header.points)
+        + 9 * usize::from(header.elements)
+        + 5 * usize::from(header.uses)
+}
+
 // Whether the rest of the file is as long as the records that the header announces.
 pub fn check_length(header: &Header, rest: &[u8]) -> Result<(), Fault>
     ensures fault { result_err result ≡ length_fault header.now rest.now }
     ensures whole { OnOk result (length rest.now ≡ announced header.now) }
 {
-    let announced = 15 * header.points as usize
-        + 9 * header.elements as usize
-        + 5 * header.uses as usize;
-    exactly(rest, announced)
+    exactly(rest, announced(header))
 }

@@ -3,6 +3,7 @@ ghost use Rattle.std.specs.Prelude.{◌≡◌, ◌+◌, ◌^◌, ◌<◌, length
 ghost use Rattle.yearfile.specs.File.{announced, told_after};
 ghost use Rattle.yearfile.specs.Told.{to_come, Tells};
 ghost use Rattle.std.specs.Iterator.{at_most};
+ghost use Rattle.std.specs.Slice.Iter.{iter_rest};
 
 use crate::record::Record;
 use crate::stream::Records;
@@ -15,12 +16,13 @@ impl<'a> Records<'a> {
         requires counted { header.now.points + header.now.elements + header.now.uses < 2 ^ 16 }
         ensures { to_come result ≡ told_after header.now rest.now }
     {
+        let (points, rest) = rest.split_at(15 * usize::from(header.points));
+        let (elements, uses) = rest.split_at(9 * usize::from(header.elements));
         Records {
-            rest,
+            points: points.as_chunks().0.iter(),
+            elements: elements.as_chunks().0.iter(),
+            uses: uses.as_chunks().0.iter(),
             place: 0,
-            points: header.points,
-            elements: header.elements,
-            uses: header.uses,
         }
     }
 }
@@ -28,33 +30,21 @@ impl<'a> Records<'a> {
 impl<'a> Iterator for Records<'a> {
     type Item = Record<'a>;
 
-    ghost remaining = { λ s. at_most (s.points + s.elements + s.uses) };
+    ghost remaining = { λ s. at_most (length (iter_rest s.points) + length (iter_rest s.elements) + length (iter_rest s.uses)) };
 
     ghost next_gives = { λ s r t. Tells s r t };
 
     fn next(&mut self) -> Option<Record<'a>> {
         let place = self.place;
-        if self.points > 0 {
-            let (bytes, rest) = self.rest.split_first_chunk::<15>()?;
-            self.rest = rest;
-            self.place += 1;
-            self.points -= 1;
-            return Some(Record::Point { bytes, place });
-        }
-        if self.elements > 0 {
-            let (bytes, rest) = self.rest.split_first_chunk::<9>()?;
-            self.rest = rest;
-            self.place += 1;
-            self.elements -= 1;
-            return Some(Record::Element { bytes, place });
-        }
-        if self.uses > 0 {
-            let (bytes, rest) = self.rest.split_first_chunk::<5>()?;
-            self.rest = rest;
-            self.place += 1;
-            self.uses -= 1;
-            return Some(Record::Use { bytes, place });
-        }
-        None
+        let record = if let Some(bytes) = self.points.next() {
+            Record::Point { bytes, place }
+        } else if let Some(bytes) = self.elements.next() {
+            Record::Element { bytes, place }
+        } else {
+            let bytes = self.uses.next()?;
+            Record::Use { bytes, place }
+        };
+        self.place += 1;
+        Some(record)
     }
 }
