@@ -1,11 +1,11 @@
 -- What the records of a file say, and what they keep where none has a fault. Assumes nothing.
 use Rattle.std.proofs.Common.{◌≡◌, ℕ, zero, suc, ◌+◌, ◌*◌, ◌<◌, ◌≤◌, List, [], ◌∷◌, ◌++◌, map, length, drop, nat_abs, None, sym, refl, ap, ◌∙◌, subst, append_assoc, append-nil, arith}
 use Rattle.std.specs.List.{AllByRecursion, flat_map}
+use Rattle.std.specs.Simd.{first_chunks}
 use Rattle.std.proofs.ByRecursion.{All-get_or}
 use Rattle.std.proofs.lemmas.List.{length-map}
-use Rattle.std.proofs.lemmas.List.Concat.{flat_map-append}
 use Rattle.agreement.specs.Agreement.{together_fault}
-use Rattle.agreement.specs.Data.{YearData, Few}
+use Rattle.agreement.specs.Data.{YearData, year_data, Few}
 use Rattle.agreement.specs.Limits.{Distinct, Named, Rising, Within, UsedWithin, Priced}
 use Rattle.agreement.specs.Together.{no_point, no_element}
 use Rattle.agreement.proofs.Keeping.{or_none, kept}
@@ -23,51 +23,26 @@ use Rattle.records.specs.declared.point.Point.{Point}
 use Rattle.year.specs.Contents.{gathered}
 use Rattle.year.specs.Ranges.{Counted, Figures, Dated, Identified, Rated, Blank}
 use Rattle.year.specs.YearFile.{year_after, year_of, first_fault}
+use Rattle.yearfile.proofs.Telling.{length-chunks}
 use Rattle.yearfile.specs.File.{length_fault, told_after}
-use Rattle.yearfile.specs.Told.{Told, a_point, an_element, a_use, parts, numbered, first_told_fault, point_in, element_in, use_in}
+use Rattle.yearfile.specs.Told.{Told, a_point, an_element, a_use, in_order, first_told_fault, point_in, element_in, use_in}
 
--- records of one kind and of others, among those told
-module _ {X : Type 0} (kind : Told → List X) where
-  own : (tell : List ℕ → ℕ → Told) (of : List ℕ → X) → ((b : List ℕ) (n : ℕ) → kind (tell b n) ≡ of b ∷ []) → (n : ℕ) (ps : List (List ℕ)) → flat_map kind (numbered tell n ps) ≡ map of ps
-  unfolding numbered
-  own tell of h n [] = refl
-  own tell of h n (p ∷ ps) = ap (λ (l : List X). l ++ flat_map kind (numbered tell (suc n) ps)) (h p n) ∙ ap (λ (l : List X). of p ∷ l) (own tell of h (suc n) ps)
-
-  other : (tell : List ℕ → ℕ → Told) → ((b : List ℕ) (n : ℕ) → kind (tell b n) ≡ []) → (n : ℕ) (ps : List (List ℕ)) → flat_map kind (numbered tell n ps) ≡ []
-  unfolding numbered
-  other tell h n [] = refl
-  other tell h n (p ∷ ps) = ap (λ (l : List X). l ++ flat_map kind (numbered tell (suc n) ps)) (h p n) ∙ other tell h (suc n) ps
-
-  three : (ts us vs : List Told) → flat_map kind (ts ++ (us ++ vs)) ≡ flat_map kind ts ++ (flat_map kind us ++ flat_map kind vs)
-  three ts us vs = flat_map-append kind ts (us ++ vs) ∙ ap (λ (l : List X). flat_map kind ts ++ l) (flat_map-append kind us vs)
+-- records told in order, each among those of its kind
+told_apart : (h : Header) (n : ℕ) (ps es us : List (List ℕ)) → gathered h (in_order n ps es us) ≡ year_data h (map point_of ps) (map element_of es) (map use_of us)
+told_apart h n [] [] [] = refl
+told_apart h n [] [] (u ∷ us) = ap (λ (d : YearData). year_data h d.points d.elements (use_of u ∷ d.uses)) (told_apart h (n + 1) [] [] us)
+told_apart h n [] (e ∷ es) us = ap (λ (d : YearData). year_data h d.points (element_of e ∷ d.elements) d.uses) (told_apart h (n + 1) [] es us)
+told_apart h n (p ∷ ps) es us = ap (λ (d : YearData). year_data h (point_of p ∷ d.points) d.elements d.uses) (told_apart h (n + 1) ps es us)
 
 -- the records that a header announces say what the file says
 pub gathers : (h : Header) (rest : List ℕ) → gathered h (told_after h rest) ≡ year_after h rest
-gathers h rest =
-    let ps = parts 15 h.points rest in
-    let es = parts 9 h.elements (drop (15 * h.points) rest) in
-    let us = parts 5 h.uses (drop (15 * h.points + 9 * h.elements) rest) in
-    let p = numbered a_point 0 ps in
-    let e = numbered an_element (0 + h.points) es in
-    let u = numbered a_use (0 + h.points + h.elements) us in
-    let points : flat_map point_in (p ++ (e ++ u)) ≡ map point_of ps =
-    three point_in p e u ∙ (rw (own point_in a_point point_of (λ b n. refl) 0 ps, other point_in an_element (λ b n. refl) (0 + h.points) es, other point_in a_use (λ b n. refl) (0 + h.points + h.elements) us) (append-nil (map point_of ps))) in
-    let elements : flat_map element_in (p ++ (e ++ u)) ≡ map element_of es =
-    three element_in p e u ∙ (rw (other element_in a_point (λ b n. refl) 0 ps, own element_in an_element element_of (λ b n. refl) (0 + h.points) es, other element_in a_use (λ b n. refl) (0 + h.points + h.elements) us) (append-nil (map element_of es))) in
-    let uses : flat_map use_in (p ++ (e ++ u)) ≡ map use_of us =
-    three use_in p e u ∙ (rw (other use_in a_point (λ b n. refl) 0 ps, other use_in an_element (λ b n. refl) (0 + h.points) es, own use_in a_use use_of (λ b n. refl) (0 + h.points + h.elements) us) refl) in
-    rw (points, elements, uses)
-
-length-parts : (size n : ℕ) (bs : List ℕ) → length (parts size n bs) ≡ n
-unfolding parts
-length-parts size zero bs = refl
-length-parts size (suc n) bs = ap suc (length-parts size n (drop size bs))
+gathers h rest = told_apart h 0 (first_chunks 15 h.points rest) (first_chunks 9 h.elements (drop (15 * h.points) rest)) (first_chunks 5 h.uses (drop (15 * h.points + 9 * h.elements) rest))
 
 pub counts : (h : Header) (rest : List ℕ) → Counted (year_after h rest)
 counts h rest = (
-  sym (length-map (parts 15 h.points rest) point_of ∙ length-parts 15 h.points rest),
-  sym (length-map (parts 9 h.elements (drop (15 * h.points) rest)) element_of ∙ length-parts 9 h.elements (drop (15 * h.points) rest)),
-  sym (length-map (parts 5 h.uses (drop (15 * h.points + 9 * h.elements) rest)) use_of ∙ length-parts 5 h.uses (drop (15 * h.points + 9 * h.elements) rest)),
+  sym (length-map (first_chunks 15 h.points rest) point_of ∙ length-chunks 15 h.points rest),
+  sym (length-map (first_chunks 9 h.elements (drop (15 * h.points) rest)) element_of ∙ length-chunks 9 h.elements (drop (15 * h.points) rest)),
+  sym (length-map (first_chunks 5 h.uses (drop (15 * h.points + 9 * h.elements) rest)) use_of ∙ length-chunks 5 h.uses (drop (15 * h.points + 9 * h.elements) rest)),
 )
 
 -- the ranges of a header, by name

@@ -1,6 +1,7 @@
 -- A year and its file determine each other. Assumes nothing.
 use Rattle.std.proofs.Common.{◌≡◌, ℕ, suc, ◌+◌, ◌-◌, ◌*◌, ◌%◌, ◌<◌, ◌≤◌, false, ltb, List, [], ◌∷◌, ◌++◌, map, length, get_or, take, drop, ℤ, pos, negsuc, nat_abs, IfOk, Some, None, Ok, Err, Option, Result, sym, refl, ap, ◌∙◌, inl, inr, append-nil, arith, length-append, MatchResult}
 use Rattle.std.specs.List.{AllByRecursion, flat_map}
+use Rattle.std.specs.Simd.{first_chunks}
 use Rattle.std.proofs.ByRecursion.{All-from_get_or}
 use Rattle.std.proofs.lemmas.List.{take-append-drop, length-drop, length-take-le, drop_all, drop-drop, take_at, drop_at}
 use Rattle.std.proofs.lemmas.List.Sums.{get_or-le-sum_by}
@@ -34,7 +35,7 @@ use Rattle.year.proofs.Reading.{counts, ranges, limits}
 use Rattle.year.specs.YearBytes.{year_bytes, Sound}
 use Rattle.year.specs.YearFile.{year_after, year_of, first_fault}
 use Rattle.yearfile.specs.File.{announced, length_fault, told_after}
-use Rattle.yearfile.specs.Told.{a_point, an_element, a_use, parts, numbered, first_told_fault}
+use Rattle.yearfile.specs.Told.{Told, a_point, an_element, a_use, numbered, first_told_fault}
 use Rattle.yearfile.proofs.Parting.{bytes_drop, bytes_take, none_told, told_none, length_all, parts_all, past_all, read_back, none_back, write_back}
 
 -- a number near zero, in two's complement, keeps its range
@@ -162,19 +163,19 @@ module _ (d : YearData) (so : Sound d) where
   unfolding use_form
   uses_ranged = ranged us (λ x k. (k, tt)) (uses_in d so)
 
-  point_parts : parts 15 h.points (body d) ≡ map point_bytes ps
+  point_parts : first_chunks 15 h.points (body d) ≡ map point_bytes ps
   unfolding point_form
-  point_parts = ap (λ (n : ℕ). parts 15 n (body d)) so.counted.0 ∙ parts_all point_form ps (flat_map element_bytes es ++ flat_map use_bytes us)
+  point_parts = ap (λ (n : ℕ). first_chunks 15 n (body d)) so.counted.0 ∙ parts_all point_form ps (flat_map element_bytes es ++ flat_map use_bytes us)
 
   past_points : drop (15 * h.points) (body d) ≡ flat_map element_bytes es ++ flat_map use_bytes us
   unfolding point_form
   past_points = ap (λ (n : ℕ). drop (15 * n) (body d)) so.counted.0 ∙ past_all point_form ps (flat_map element_bytes es ++ flat_map use_bytes us)
 
-  element_parts : parts 9 h.elements (drop (15 * h.points) (body d)) ≡ map element_bytes es
+  element_parts : first_chunks 9 h.elements (drop (15 * h.points) (body d)) ≡ map element_bytes es
   unfolding element_form
   element_parts =
-      ap (parts 9 h.elements) past_points
-      ∙ (ap (λ (n : ℕ). parts 9 n (flat_map element_bytes es ++ flat_map use_bytes us)) so.counted.1 ∙ parts_all element_form es (flat_map use_bytes us))
+      ap (first_chunks 9 h.elements) past_points
+      ∙ (ap (λ (n : ℕ). first_chunks 9 n (flat_map element_bytes es ++ flat_map use_bytes us)) so.counted.1 ∙ parts_all element_form es (flat_map use_bytes us))
 
   past_elements : drop (15 * h.points + 9 * h.elements) (body d) ≡ flat_map use_bytes us
   unfolding element_form
@@ -183,12 +184,12 @@ module _ (d : YearData) (so : Sound d) where
       ∙ (ap (drop (9 * h.elements)) past_points
       ∙ (ap (λ (n : ℕ). drop (9 * n) (flat_map element_bytes es ++ flat_map use_bytes us)) so.counted.1 ∙ past_all element_form es (flat_map use_bytes us)))
 
-  use_parts : parts 5 h.uses (drop (15 * h.points + 9 * h.elements) (body d)) ≡ map use_bytes us
+  use_parts : first_chunks 5 h.uses (drop (15 * h.points + 9 * h.elements) (body d)) ≡ map use_bytes us
   unfolding use_form
   use_parts =
-      ap (parts 5 h.uses) past_elements
-      ∙ (ap (λ (n : ℕ). parts 5 n (flat_map use_bytes us)) so.counted.2
-      ∙ (ap (parts 5 (length us)) (sym (append-nil (flat_map use_bytes us))) ∙ parts_all use_form us []))
+      ap (first_chunks 5 h.uses) past_elements
+      ∙ (ap (λ (n : ℕ). first_chunks 5 n (flat_map use_bytes us)) so.counted.2
+      ∙ (ap (first_chunks 5 (length us)) (sym (append-nil (flat_map use_bytes us))) ∙ parts_all use_form us []))
 
   year_back : year_after h (body d) ≡ d
   year_back = rw (point_parts, element_parts, use_parts, read_back point_form point_lawful ps points_ranged, read_back element_form element_lawful es elements_ranged, read_back use_form use_lawful us uses_ranged)
@@ -196,10 +197,11 @@ module _ (d : YearData) (so : Sound d) where
   told_back : first_told_fault (told_after h (body d)) ≡ None
   unfolding first_told_fault
   told_back =
-      rw (point_parts, element_parts, use_parts)
-      (none_told a_point 0 (map point_bytes ps) _ (none_back point_form point_lawful ps points_ranged)
-      ∙ (none_told an_element (0 + h.points) (map element_bytes es) _ (none_back element_form element_lawful es elements_ranged)
-      ∙ (ap first_told_fault (sym (append-nil (numbered a_use (0 + h.points + h.elements) (map use_bytes us)))) ∙ none_told a_use (0 + h.points + h.elements) (map use_bytes us) [] (none_back use_form use_lawful us uses_ranged))))
+      rw (point_parts, element_parts, use_parts, ← append-nil {A = ℕ → Told} (map (λ b n. a_use b n) (map use_bytes us)))
+      (none_told a_point _ (map point_bytes ps) (none_back point_form point_lawful ps points_ranged)
+      (none_told an_element _ (map element_bytes es) (none_back element_form element_lawful es elements_ranged)
+      (none_told a_use [] (map use_bytes us) (none_back use_form use_lawful us uses_ranged) (λ n. refl)))
+      0)
 
   length-body : length (body d) ≡ announced h
   unfolding point_form element_form use_form
@@ -282,38 +284,38 @@ module _ (file : List ℕ) (bytes : Bytes file) (fine : None ≡ first_fault fil
   rest_bytes : Bytes rest
   rest_bytes = bytes_drop 27 file bytes
 
-  points_none : AllByRecursion (λ b. (k : ℕ) × (None ≡ point_fault (k + 1) b)) (parts 15 hd.points rest) × (None ≡ first_told_fault (numbered an_element (0 + hd.points) (parts 9 hd.elements mid) ++ numbered a_use (0 + hd.points + hd.elements) (parts 5 hd.uses last)))
-  points_none = told_none a_point 0 (parts 15 hd.points rest) _ records_none
+  points_none : AllByRecursion (λ b. (k : ℕ) × (None ≡ point_fault (k + 1) b)) (first_chunks 15 hd.points rest) × ((n : ℕ) × (None ≡ first_told_fault (numbered n (map (λ b n. an_element b n) (first_chunks 9 hd.elements mid) ++ map (λ b n. a_use b n) (first_chunks 5 hd.uses last)))))
+  points_none = told_none a_point _ 0 (first_chunks 15 hd.points rest) records_none
 
-  elements_none : AllByRecursion (λ b. (k : ℕ) × (None ≡ element_fault (k + 1) b)) (parts 9 hd.elements mid) × (None ≡ first_told_fault (numbered a_use (0 + hd.points + hd.elements) (parts 5 hd.uses last)))
-  elements_none = told_none an_element (0 + hd.points) (parts 9 hd.elements mid) _ points_none.1
+  elements_none : AllByRecursion (λ b. (k : ℕ) × (None ≡ element_fault (k + 1) b)) (first_chunks 9 hd.elements mid) × ((n : ℕ) × (None ≡ first_told_fault (numbered n (map (λ b n. a_use b n) (first_chunks 5 hd.uses last)))))
+  elements_none = told_none an_element _ points_none.1.0 (first_chunks 9 hd.elements mid) points_none.1.1
 
-  uses_none : AllByRecursion (λ b. (k : ℕ) × (None ≡ use_fault (k + 1) b)) (parts 5 hd.uses last)
+  uses_none : AllByRecursion (λ b. (k : ℕ) × (None ≡ use_fault (k + 1) b)) (first_chunks 5 hd.uses last)
   uses_none =
-      let n = elements_none.1 ∙ ap first_told_fault (sym (append-nil (numbered a_use (0 + hd.points + hd.elements) (parts 5 hd.uses last)))) in
-      (told_none a_use (0 + hd.points + hd.elements) (parts 5 hd.uses last) [] n).0
+      let n = elements_none.1.1 ∙ ap (λ l. first_told_fault (numbered elements_none.1.0 l)) (sym (append-nil (map (λ b n. a_use b n) (first_chunks 5 hd.uses last)))) in
+      (told_none a_use [] elements_none.1.0 (first_chunks 5 hd.uses last) n).0
 
-  points_back : flat_map point_bytes (map point_of (parts 15 hd.points rest)) ++ mid ≡ rest
+  points_back : flat_map point_bytes (map point_of (first_chunks 15 hd.points rest)) ++ mid ≡ rest
   unfolding point_form
   points_back = write_back point_form point_lawful hd.points rest (omega (arith, length_rest)) rest_bytes points_none.0
 
   after_mid : drop (9 * hd.elements) mid ≡ last
   after_mid = drop-drop (9 * hd.elements) (15 * hd.points) rest
 
-  elements_back : flat_map element_bytes (map element_of (parts 9 hd.elements mid)) ++ last ≡ mid
+  elements_back : flat_map element_bytes (map element_of (first_chunks 9 hd.elements mid)) ++ last ≡ mid
   unfolding element_form
   elements_back =
       let l : 9 * hd.elements ≤ length mid = omega (arith, length_rest, length-drop (15 * hd.points) rest) in
-      ap (λ (bs : List ℕ). flat_map element_bytes (map element_of (parts 9 hd.elements mid)) ++ bs) (sym after_mid)
+      ap (λ (bs : List ℕ). flat_map element_bytes (map element_of (first_chunks 9 hd.elements mid)) ++ bs) (sym after_mid)
       ∙ write_back element_form element_lawful hd.elements mid l (bytes_drop (15 * hd.points) rest rest_bytes) elements_none.0
 
-  uses_back : flat_map use_bytes (map use_of (parts 5 hd.uses last)) ≡ last
+  uses_back : flat_map use_bytes (map use_of (first_chunks 5 hd.uses last)) ≡ last
   unfolding use_form
   uses_back =
       let n : length last ≡ 5 * hd.uses = omega (arith, length_rest, length-drop (15 * hd.points + 9 * hd.elements) rest) in
       let none : drop (5 * hd.uses) last ≡ [] = drop_all (5 * hd.uses) last (omega (arith, n)) in
       let w = write_back use_form use_lawful hd.uses last (omega (arith, n)) (bytes_drop (15 * hd.points + 9 * hd.elements) rest rest_bytes) uses_none in
-      sym (append-nil _) ∙ (ap (λ (bs : List ℕ). flat_map use_bytes (map use_of (parts 5 hd.uses last)) ++ bs) (sym none) ∙ w)
+      sym (append-nil _) ∙ (ap (λ (bs : List ℕ). flat_map use_bytes (map use_of (first_chunks 5 hd.uses last)) ++ bs) (sym none) ∙ w)
 
   pub read_then_written : year_bytes (year_of file) ≡ file
   read_then_written = rw (uses_back, elements_back, points_back, ← head_is) (take-append-drop 27 file)
