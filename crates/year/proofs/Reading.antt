@@ -1,5 +1,5 @@
 -- What the records of a file say, and what they keep where none has a fault. Assumes nothing.
-use Rattle.std.proofs.Common.{◌≡◌, ℕ, zero, suc, ◌+◌, ◌*◌, ◌<◌, ◌≤◌, List, [], ◌∷◌, ◌++◌, map, length, drop, nat_abs, None, sym, refl, ap, ◌∙◌, subst, append_assoc, append-nil, arith}
+use Rattle.std.proofs.Common.{◌≡◌, ℕ, ◌+◌, ◌*◌, ◌<◌, ◌≤◌, List, [], ◌∷◌, map, length, drop, nat_abs, None, sym, refl, ap, ◌∙◌, subst, arith}
 use Rattle.std.specs.List.{AllByRecursion, flat_map}
 use Rattle.std.specs.Simd.{first_chunks}
 use Rattle.std.proofs.ByRecursion.{All-get_or}
@@ -25,7 +25,7 @@ use Rattle.year.specs.Ranges.{Counted, Figures, Dated, Identified, Rated, Blank}
 use Rattle.year.specs.YearFile.{year_after, year_of, first_fault}
 use Rattle.yearfile.proofs.Telling.{length-chunks}
 use Rattle.yearfile.specs.File.{length_fault, told_after}
-use Rattle.yearfile.specs.Told.{Told, a_point, an_element, a_use, in_order, first_told_fault, point_in, element_in, use_in}
+use Rattle.yearfile.specs.Told.{Told, a_point, an_element, a_use, in_order, first_told_fault, point_in, element_in}
 
 -- records told in order, each among those of its kind
 told_apart : (h : Header) (n : ℕ) (ps es us : List (List ℕ)) → gathered h (in_order n ps es us) ≡ year_data h (map point_of ps) (map element_of es) (map use_of us)

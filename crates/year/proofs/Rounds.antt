@@ -203,14 +203,14 @@ module _ (d : YearData) (so : Sound d) where
       (none_told a_use [] (map use_bytes us) (none_back use_form use_lawful us uses_ranged) (λ n. refl)))
       0)
 
-  length-body : length (body d) ≡ announced h
+  pub length-body : length (body d) ≡ announced h
   unfolding point_form element_form use_form
   length-body = simp length-append (omega (arith, length_all point_form ps, length_all element_form es, length_all use_form us, so.counted.0, so.counted.1, so.counted.2))
 
   length_back : length_fault h (body d) ≡ None
   length_back = let n = length-body in grind (arith, nat_tests)
 
-  length-head : length (header_bytes h) ≡ 27
+  pub length-head : length (header_bytes h) ≡ 27
   unfolding header_form
   length-head = length_record header_form h
 

@@ -7,7 +7,7 @@ ghost use Rattle.agreement.specs.Together.{no_point, no_element, no_use};
 ghost use Rattle.bits.specs.declared.refusal.Refusal.TheVariants.{ArgumentOutOfRange};
 ghost use Rattle.year.specs.Holds.{contents, empty_refusal, place_refusal};
 
-use crate::lists::Lists;
+use crate::filled::FilledYear;
 use crate::year::Year;
 use bits::refusal::Refusal;
 use records::element::Element;
@@ -37,23 +37,12 @@ impl Year {
         self.held.uses.as_slice()
     }
 
-    // The lists of a year that is not the empty one.
-    pub(crate) fn lists(&self) -> Result<&Lists, Refusal>
-        ensures refused { result_err result ≡ empty_refusal (contents self.now) }
-        ensures value { IfOk result (λ l. l.now ≡ self.now.held) }
-    {
-        if self.held.points.is_empty() {
-            return Err(Refusal::EmptyYear);
-        }
-        Ok(&self.held)
-    }
-
     // The header, with the year, the counts and the amounts.
     pub fn header(&self) -> Result<Header, Refusal>
         ensures refused { result_err result ≡ empty_refusal (contents self.now) }
         ensures value { IfOk result (λ h. h ≡ (contents self.now).header) }
     {
-        Ok(self.lists()?.header)
+        Ok(FilledYear::new(self)?.header())
     }
 
     // The point at a place.
@@ -61,7 +50,7 @@ impl Year {
         ensures refused { result_err result ≡ place_refusal (contents self.now) (length (contents self.now).points) place }
         ensures value { IfOk result (λ p. p ≡ slice_index_or (contents self.now).points place no_point) }
     {
-        record_at(&self.lists()?.points, place)
+        record_at(FilledYear::new(self)?.year.points(), place)
     }
 
     // The element at a place.
@@ -69,7 +58,7 @@ impl Year {
         ensures refused { result_err result ≡ place_refusal (contents self.now) (length (contents self.now).elements) place }
         ensures value { IfOk result (λ e. e ≡ slice_index_or (contents self.now).elements place no_element) }
     {
-        record_at(&self.lists()?.elements, place)
+        record_at(FilledYear::new(self)?.year.elements(), place)
     }
 
     // The use at a place.
@@ -77,7 +66,7 @@ impl Year {
         ensures refused { result_err result ≡ place_refusal (contents self.now) (length (contents self.now).uses) place }
         ensures value { IfOk result (λ u. u ≡ slice_index_or (contents self.now).uses place no_use) }
     {
-        record_at(&self.lists()?.uses, place)
+        record_at(FilledYear::new(self)?.year.uses(), place)
     }
 }
 

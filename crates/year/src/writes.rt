@@ -6,9 +6,11 @@ ghost use Rattle.year.specs.Holds.{contents};
 ghost use Rattle.year.specs.YearBytes.{year_bytes, write_refusal};
 ghost use Rattle.year.specs.YearFile.{first_fault, year_of};
 
+use crate::filled::FilledYear;
 use crate::year::Year;
 use bits::refusal::Refusal;
 use yearfile::lay::{Lay, lay_all};
+use yearfile::length::announced;
 
 impl Year {
     // Writes the year's file at the start of a buffer, and answers how many bytes it takes.
@@ -17,19 +19,13 @@ impl Year {
         ensures written { MatchResult result (λ n. (n ≡ length (year_bytes (contents self.now))) × (buffer.new ≡ over (year_bytes (contents self.now)) buffer.old)) (λ _. buffer.new ≡ buffer.old) }
         ensures back { OnOk result ((None ≡ first_fault (year_bytes (contents self.now))) × (year_of (year_bytes (contents self.now)) ≡ contents self.now)) }
     {
-        let points = self.points();
-        let elements = self.elements();
-        let uses = self.uses();
-        if points.is_empty() {
-            return Err(Refusal::EmptyYear);
-        }
-        let whole = 27 + 15 * points.len() + 9 * elements.len() + 5 * uses.len();
-        if buffer.len() < whole {
+        let lists = &FilledYear::new(self)?.year.held;
+        if buffer.len() < 27 + announced(&lists.header) {
             return Err(Refusal::BufferShort);
         }
-        let past_header = self.held.header.lay(buffer, 0);
-        let past_points = lay_all(points, buffer, past_header);
-        let past_elements = lay_all(elements, buffer, past_points);
-        Ok(lay_all(uses, buffer, past_elements))
+        let past_header = lists.header.lay(buffer, 0);
+        let past_points = lay_all(&lists.points, buffer, past_header);
+        let past_elements = lay_all(&lists.elements, buffer, past_points);
+        Ok(lay_all(&lists.uses, buffer, past_elements))
     }
 }
