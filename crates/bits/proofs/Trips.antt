@@ -3,7 +3,8 @@ use Rattle.std.proofs.Common.{◌≡◌, ℕ, ◌*◌, List, [], ◌∷◌, leng
 use Rattle.std.specs.Result.{result_err}
 use Rattle.bits.specs.Bits.{bits, bytes_of}
 use Rattle.bits.specs.Forms.{Form, values_of, record_of, record_fault, record_bytes, record_refusal, InRange}
-use Rattle.bits.specs.Laid.{row_refusal}
+use Rattle.bits.specs.Laid.{row_refusal, room_fault, ◌or_else◌}
+use Rattle.bits.specs.Rows.{Alike, Stands, Lawful, Kept}
 use Rattle.bits.specs.Layout.{values_in, packed, span, first_bad, AllKeep, Narrow}
 use Rattle.bits.specs.declared.fault.Fault.{Fault}
 use Rattle.bits.specs.declared.field.Field.{Field}
@@ -26,23 +27,6 @@ packed_same (f ∷ fs) (g ∷ gs) e (v ∷ vs) =
     let b : widths fs ≡ widths gs = cc in
     let i = packed_same fs gs b vs in
     cc
-
--- two rows that differ in their limits alone
-pub record Alike (fs gs : List Field) : Type 0 where
-  pub count : length fs ≡ length gs
-  pub span : span fs ≡ span gs
-  pub values : (bs : List ℕ) → values_in fs bs ≡ values_in gs bs
-  pub bits : (vs : List ℕ) → packed fs vs ≡ packed gs vs
-
--- the widths of a kind of record make up whole bytes and hang on no value, and its names give its values back
-pub record Lawful {X : Type 0} (F : Form X) : Type 0 where
-  pub narrow : Narrow (F.fields [])
-  pub whole : span (F.fields []) ≡ 8 * F.size
-  pub alike : (vs : List ℕ) → Alike (F.fields vs) (F.fields [])
-  pub count : (x : X) → length (F.values x) ≡ length (F.fields [])
-  pub back : (x : X) → InRange F x → F.named (F.values x) ≡ x
-  pub forth : (vs : List ℕ) → length vs ≡ length (F.fields []) → AllKeep (F.fields vs) vs → F.values (F.named vs) ≡ vs
-  pub limited : (vs : List ℕ) → length vs ≡ length (F.fields []) → AllKeep (F.fields vs) vs → F.limits (F.named vs)
 
 -- a record has so many bytes
 pub length_record : {X : Type 0} (F : Form X) (x : X) → length (record_bytes F x) ≡ F.size
@@ -76,17 +60,26 @@ read_written F l place xs n b e =
       sym (ap (λ (us : List ℕ). bytes_of F.size (packed (F.fields []) us)) f ∙ writes_back F.size (F.fields []) xs l.narrow l.whole n b),
     )
 
--- What reading answers, where the code has the values as `vs` and their fields as `gs`: the fault of a read that fails,
--- and all that is known of one that succeeds.
-pub read_fails : {X : Type 0} (F : Form X) (place : ℕ) (xs vs : List ℕ) (gs : List Field) (o : Option Fault) → vs ≡ values_of F xs → gs ≡ F.fields vs → o ≡ first_bad place 1 gs vs → o ≡ record_fault F place xs
-unfolding record_fault
-read_fails F place xs vs gs o v g e = e ∙ (ap (λ (fs : List Field). first_bad place 1 fs vs) g ∙ ap (λ (us : List ℕ). first_bad place 1 (F.fields us) us) v)
+-- fields that are those of a kind of record serve for them
+pub stands_same : {X : Type 0} (F : Form X) → Lawful F → (vs : List ℕ) (gs : List Field) → gs ≡ F.fields vs → Stands F vs gs
+stands_same F l vs gs e =
+    record { alike = subst (λ (fs : List Field). Alike fs (F.fields [])) (sym e) (l.alike vs); judges = λ nth. ap (λ (fs : List Field). first_bad nth 1 fs vs) e }
 
-pub read_succeeds : {X : Type 0} (F : Form X) → Lawful F → (place : ℕ) (xs vs : List ℕ) (gs : List Field) → length xs ≡ F.size → Bytes xs → vs ≡ values_of F xs → gs ≡ F.fields vs → None ≡ first_bad place 1 gs vs
+-- values that keep the ranges of such fields keep their own
+pub kept_by : {X : Type 0} (F : Form X) (vs : List ℕ) (gs : List Field) → Stands F vs gs → AllKeep gs vs → Kept F vs
+kept_by F vs gs s k = all_kept 0 1 (F.fields vs) vs (sym (s.judges 0) ∙ none_bad 0 1 gs vs k)
+
+-- What reading answers, where the code has the values as `vs` and fields `gs` that serve for theirs: the fault of a read
+-- that fails, and all that is known of one that succeeds.
+pub read_fails : {X : Type 0} (F : Form X) (place : ℕ) (xs vs : List ℕ) (gs : List Field) (o : Option Fault) → vs ≡ values_of F xs → Stands F vs gs → o ≡ first_bad place 1 gs vs → o ≡ record_fault F place xs
+unfolding record_fault
+read_fails F place xs vs gs o v s e = e ∙ (s.judges place ∙ ap (λ (us : List ℕ). first_bad place 1 (F.fields us) us) v)
+
+pub read_succeeds : {X : Type 0} (F : Form X) → Lawful F → (place : ℕ) (xs vs : List ℕ) (gs : List Field) → length xs ≡ F.size → Bytes xs → vs ≡ values_of F xs → Stands F vs gs → None ≡ first_bad place 1 gs vs
     → (None ≡ record_fault F place xs) × (F.named vs ≡ record_of F xs) × (InRange F (F.named vs) × (xs ≡ record_bytes F (F.named vs)))
 unfolding record_of
-read_succeeds {X} F l place xs vs gs n b v g e =
-    let d : record_fault F place xs ≡ None = sym (read_fails F place xs vs gs None v g e) in
+read_succeeds {X} F l place xs vs gs n b v s e =
+    let d : record_fault F place xs ≡ None = sym (read_fails F place xs vs gs None v s e) in
     let m : F.named vs ≡ F.named (values_of F xs) = ap F.named v in
     (sym d, m, subst (λ (x : X). InRange F x × (xs ≡ record_bytes F x)) (sym m) (read_written F l place xs n b d))
 
@@ -99,17 +92,18 @@ read_finds F l place xs (Err f) e m x h b =
     let z : ◌≡◌ {A = ℕ} 0 1 = cc in
     absurd (omega arith)
 
--- what writing answers, where the code has the values of x as `vs` and their fields as `gs`
-pub write_answers : {X : Type 0} (F : Form X) → Lawful F → (place room : ℕ) (x : X) (vs : List ℕ) (gs : List Field) → vs ≡ F.values x → gs ≡ F.fields vs
+-- what writing answers, where the code has the values of x as `vs` and fields `gs` that serve for theirs
+pub write_answers : {X : Type 0} (F : Form X) (place room : ℕ) (x : X) (vs : List ℕ) (gs : List Field) → vs ≡ F.values x → Stands F vs gs
     → (row_refusal place F.size gs vs room ≡ record_refusal F place x room) × (bytes_of F.size (packed gs vs) ≡ record_bytes F x)
 unfolding record_refusal record_bytes
-write_answers F l place room x vs gs v g = (
-  ap (λ (fs : List Field). row_refusal place F.size fs vs room) g ∙ ap (λ (us : List ℕ). row_refusal place F.size (F.fields us) us room) v,
-  ap (λ (fs : List Field). bytes_of F.size (packed fs vs)) g ∙ (ap (bytes_of F.size) ((l.alike vs).bits vs) ∙ ap (λ (us : List ℕ). bytes_of F.size (packed (F.fields []) us)) v),
+write_answers F place room x vs gs v s = (
+  ap (λ (o : Option Fault). o or_else room_fault F.size room) (s.judges place) ∙ ap (λ (us : List ℕ). row_refusal place F.size (F.fields us) us room) v,
+  ap (bytes_of F.size) (s.alike.bits vs) ∙ ap (λ (us : List ℕ). bytes_of F.size (packed (F.fields []) us)) v,
 )
 
-pub write_stands : {X : Type 0} (F : Form X) → Lawful F → (place : ℕ) (x : X) (vs : List ℕ) (gs : List Field) → vs ≡ F.values x → gs ≡ F.fields vs → F.limits x → AllKeep gs vs
+pub write_stands : {X : Type 0} (F : Form X) → Lawful F → (place : ℕ) (x : X) (vs : List ℕ) (gs : List Field) → vs ≡ F.values x → Stands F vs gs → (Kept F vs → F.limits x) → AllKeep gs vs
     → InRange F x × ((record_fault F place (record_bytes F x) ≡ None) × (record_of F (record_bytes F x) ≡ x))
-write_stands F l place x vs gs v g m k =
-    let h : InRange F x = (subst (λ (us : List ℕ). AllKeep (F.fields us) us) v (subst (λ (fs : List Field). AllKeep fs vs) g k), m) in
+write_stands F l place x vs gs v s m k =
+    let q = kept_by F vs gs s k in
+    let h : InRange F x = (subst (λ (us : List ℕ). AllKeep (F.fields us) us) v q, m q) in
     (h, written_read F l place x h)

@@ -1,15 +1,24 @@
 -- Rows of fields, one field at a time. Assumes nothing.
-use Rattle.std.proofs.Common.{◌≡◌, ℕ, zero, suc, ◌+◌, ◌<◌, ◌≤◌, Bool, true, false, cond, List, [], ◌∷◌, ◌++◌, length, get_or, take, drop, set, replicate, Some, None, sym, refl, ap, ◌∙◌, add-one, arith}
+use Rattle.std.proofs.Common.{◌≡◌, ℕ, zero, suc, ◌+◌, ◌<◌, ◌≤◌, Bool, ◌&&◌, leb, true, false, cond, List, [], ◌∷◌, ◌++◌, length, get_or, take, drop, set, replicate, Some, None, sym, refl, ap, ◌∙◌, add-one, arith}
 use Rattle.std.proofs.lemmas.List.{length-append, append_assoc, append-nil, drop_more, drop_all, take_all, take_more_set, length-set, length-drop, length-replicate}
+use Rattle.std.proofs.lemmas.Bool.{and_parts, leb-true}
 use Rattle.bits.specs.Bits.{bits_of, number}
 use Rattle.bits.specs.Faults.{field_fault}
-use Rattle.bits.specs.Layout.{plain, meaning, keeps, values_in, packed, span, first_bad, Narrow}
+use Rattle.bits.specs.Layout.{plain, narrow, meaning, keeps, values_in, packed, span, first_bad, Narrow}
 use Rattle.bits.specs.declared.field.Field.{Field}
 use Rattle.bits.proofs.Digits.{length-bits_of}
 
 -- what stands past the end of a row
 abbrev pub blank : Field
 blank = plain 0 0 0
+
+-- what the test of a layout says
+pub narrow_all : (fs : List Field) → narrow fs ≡ true → Narrow fs
+narrow_all [] e = tt
+narrow_all (f ∷ fs) e =
+    let a = and_parts (leb 1 f.width && leb f.width 63) (narrow fs) e in
+    let b = and_parts (leb 1 f.width) (leb f.width 63) a.0 in
+    (leb-true 1 f.width b.0, leb-true f.width 63 b.1, narrow_all fs a.1)
 
 pub narrow_at : (fs : List Field) (i : ℕ) (d : Field) → Narrow fs → i < length fs → (1 ≤ (get_or fs i d).width) × ((get_or fs i d).width ≤ 63)
 narrow_at [] i d n h = absurd (omega arith)

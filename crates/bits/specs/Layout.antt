@@ -1,6 +1,6 @@
 -- A record as a row of fields, each with a width and a range, packed one after the other. A row of values has as many
 -- values as there are fields.
-use Rattle.std.specs.Prelude.{◌≡◌, ℕ, suc, ◌+◌, ◌-◌, ◌%◌, ◌^◌, ◌≤◌, Bool, cond, ◌&&◌, ◌||◌, ◌⊎◌, List, [], ◌∷◌, ◌++◌, take, drop, Some, None, Option, ◌==◌, nat_le, nat_lt}
+use Rattle.std.specs.Prelude.{◌≡◌, ℕ, suc, ◌+◌, ◌-◌, ◌%◌, ◌^◌, ◌≤◌, Bool, true, cond, ◌&&◌, ◌||◌, ◌⊎◌, List, [], ◌∷◌, ◌++◌, take, drop, Some, None, Option, ◌==◌, nat_le, nat_lt}
 use Rattle.bits.specs.Bits.{bits_of, number}
 use Rattle.bits.specs.Faults.{field_fault}
 use Rattle.bits.specs.declared.fault.Fault.{Fault}
@@ -80,3 +80,8 @@ AllKeep (f ∷ fs) (v ∷ vs) = Keeps f v × AllKeep fs vs
 abbrev pub Narrow : List Field → Type 0
 Narrow [] = Unit {0}
 Narrow (f ∷ fs) = (1 ≤ f.width) × (f.width ≤ 63) × Narrow fs
+
+-- the same as a test
+abbrev pub narrow : List Field → Bool
+narrow [] = true
+narrow (f ∷ fs) = nat_le 1 f.width && nat_le f.width 63 && narrow fs

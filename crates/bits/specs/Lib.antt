@@ -6,4 +6,5 @@ pub mod Written
 pub mod Layout
 pub mod Laid
 pub mod Forms
+pub mod Rows
 pub mod Signs

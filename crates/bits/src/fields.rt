@@ -1,6 +1,6 @@
 // Rows of fields: the values that bytes hold, the first value out of its range, and the bytes of given values.
 // The value of a signed field is handled as 64 bits in two's complement.
-ghost use Rattle.std.specs.Prelude.{◌≡◌, ℕ, ◌+◌, ◌-◌, ◌*◌, ◌%◌, ◌^◌, ◌<◌, ◌≤◌, length, IfOk, OnOk};
+ghost use Rattle.std.specs.Prelude.{◌≡◌, ℕ, ◌+◌, ◌-◌, ◌*◌, ◌%◌, ◌^◌, ◌<◌, ◌≤◌, length, slice_index, IfOk, OnOk};
 ghost use Rattle.std.specs.Result.{result_err};
 ghost use Rattle.bits.specs.Bits.{bits, bytes_of};
 ghost use Rattle.bits.specs.Layout.{plain, free, only, signed, meaning, keeps, values_in, packed, span, first_bad, AllKeep, Narrow};
@@ -8,6 +8,7 @@ ghost use Rattle.bits.specs.Laid.{room_fault, laid};
 
 use crate::fault::Fault;
 use crate::field::{Field, Range};
+use crate::layout::Layout;
 use crate::reader::Reader;
 use crate::refusal::Refusal;
 use crate::writer::Writer;
@@ -76,50 +77,44 @@ impl Field {
     }
 }
 
-// The values that bytes hold in a row of fields.
-pub fn decode<const N: usize>(fields: &[Field], bytes: &[u8]) -> [u64; N]
-    requires narrow { Narrow fields.now }
-    requires count { length fields.now ≡ N }
-    requires room { span fields.now ≤ 8 * length bytes.now }
-    ensures { result ≡ values_in fields.now (bits bytes.now) }
-{
-    let mut bits = Reader::new(bytes);
-    let mut values = [0; N];
-    for (i, field) in fields.iter().enumerate() {
-        values[i] = field.meaning(bits.take(field.width));
-    }
-    values
-}
-
-// Holds the values of a record against their ranges.
-pub fn check(fields: &[Field], values: &[u64], record: u16) -> Result<(), Fault>
-    requires narrow { Narrow fields.now }
-    requires count { length fields.now ≡ length values.now }
-    requires few { length fields.now < 256 }
-    ensures fault { result_err result ≡ first_bad «record» 1 fields.now values.now }
-    ensures kept { OnOk result (AllKeep fields.now values.now) }
-{
-    for (i, field) in fields.iter().enumerate() {
-        if !field.keeps(values[i]) {
-            return Err(Fault::outside(record, i as u8 + 1));
+impl<const N: usize, const M: usize> Layout<N, M> {
+    // The values that bytes hold.
+    pub fn decode(&self, bytes: &[u8]) -> [u64; N]
+        requires { M ≤ length bytes.now }
+        ensures value { result ≡ values_in self.now.fields (bits bytes.now) }
+        ensures eight { (k : ℕ) → slice_index bytes.now k < 2 ^ 8 }
+    {
+        let mut bits = Reader::new(bytes);
+        let mut values = [0; N];
+        for (i, field) in self.fields.iter().enumerate() {
+            values[i] = field.meaning(bits.take(field.width));
         }
+        values
     }
-    Ok(())
-}
 
-// The bytes of a row of values.
-pub fn encode<const M: usize>(fields: &[Field], values: &[u64]) -> [u8; M]
-    requires narrow { Narrow fields.now }
-    requires count { length fields.now ≡ length values.now }
-    requires whole { span fields.now ≡ 8 * M }
-    requires small { M < 2 ^ 32 }
-    ensures { result ≡ bytes_of M (packed fields.now values.now) }
-{
-    let mut bits = Writer::new();
-    for (i, field) in fields.iter().enumerate() {
-        bits.put(values[i], field.width);
+    // Holds the values of a record against their ranges.
+    pub fn check(&self, values: &[u64; N], record: u16) -> Result<(), Fault>
+        ensures fault { result_err result ≡ first_bad «record» 1 self.now.fields values.now }
+        ensures kept { OnOk result (AllKeep self.now.fields values.now) }
+    {
+        for (i, field) in self.fields.iter().enumerate() {
+            if !field.keeps(values[i]) {
+                return Err(Fault::outside(record, i as u8 + 1));
+            }
+        }
+        Ok(())
     }
-    bits.finish()
+
+    // The bytes of a row of values.
+    pub fn encode(&self, values: &[u64; N]) -> [u8; M]
+        ensures { result ≡ bytes_of M (packed self.now.fields values.now) }
+    {
+        let mut bits = Writer::new();
+        for (i, field) in self.fields.iter().enumerate() {
+            bits.put(values[i], field.width);
+        }
+        bits.finish()
+    }
 }
 
 // Lays bytes at the front of a buffer, and answers how many.

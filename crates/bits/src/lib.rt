@@ -4,10 +4,11 @@
 pub mod fault;
 pub mod field;
 pub mod fields;
+pub mod layout;
 pub mod lengths;
 pub mod reader;
 pub mod reads;
 pub mod refusal;
-pub mod rows;
+pub mod row;
 pub mod writer;
 pub mod writes;

@@ -8,48 +8,11 @@ use Rattle.bits.specs.Layout.{values_in, AllKeep}
 use Rattle.bits.specs.declared.fault.Fault.{Fault}
 use Rattle.bits.specs.declared.field.Field.{Field}
 use Rattle.bits.proofs.Laws.{keep_at}
-use Rattle.bits.proofs.Trips.{Lawful, packed_same, length_record, write_stands}
+use Rattle.bits.proofs.Trips.{packed_same, length_record, write_stands}
 use Rattle.bits.proofs.Twos.{untwos-twos, twos-untwos, untwos_near, twos_near, extended_lt}
 use Rattle.records.specs.Headers.{header_row, header_fields, header_values, header_named, header_form, header_of, header_fault, header_bytes, HeaderIn, ResiduesNear}
 use Rattle.records.specs.declared.header.Header.{Header}
-use Rattle.records.proofs.Named.{names_all}
-
-named_back : (vs : List ℕ) → length vs ≡ 11 → AllKeep (header_fields vs) vs → header_values (header_named vs) ≡ vs
-named_back vs n k =
-    let a = names_all 11 vs n in
-    let z0 : get_or vs 0 0 ≡ 1 = omega (arith, keep_at (header_fields vs) vs 0 k (lit< tt) (omega arith)) in
-    let z5 : get_or vs 5 0 ≡ 0 = omega (arith, keep_at (header_fields vs) vs 5 k (lit< tt) (omega arith)) in
-    let s8 = twos-untwos (get_or vs 8 0) (extended_lt 35 (get_or vs 8 0) (lit≤ tt) (keep_at (header_fields vs) vs 8 k (lit< tt) (omega arith)).0) in
-    let s9 = twos-untwos (get_or vs 9 0) (extended_lt 35 (get_or vs 9 0) (lit≤ tt) (keep_at (header_fields vs) vs 9 k (lit< tt) (omega arith)).0) in
-    cc
-
-near : (vs : List ℕ) → length vs ≡ 11 → AllKeep (header_fields vs) vs → ResiduesNear (header_named vs)
-near vs n k =
-    let k8 = keep_at (header_fields vs) vs 8 k (lit< tt) (omega arith) in
-    let k9 = keep_at (header_fields vs) vs 9 k (lit< tt) (omega arith) in (
-      untwos_near 10000000000 (get_or vs 8 0) (lit< tt) (extended_lt 35 (get_or vs 8 0) (lit≤ tt) k8.0) k8.1,
-      untwos_near 10000000000 (get_or vs 9 0) (lit< tt) (extended_lt 35 (get_or vs 9 0) (lit≤ tt) k9.0) k9.1,
-    )
-
-values_back : (h : Header) → ResiduesNear h → header_named (header_values h) ≡ h
-values_back h (a, b) =
-    let e = untwos-twos 10000000000 h.locational_residue (lit< tt) a in
-    let f = untwos-twos 10000000000 h.other_residue (lit< tt) b in
-    rw (e, f)
-
-pub header_lawful : Lawful header_form
-unfolding header_form values_in
-header_lawful =
-    record {
-      narrow =
-          (lit≤ tt, lit≤ tt, (lit≤ tt, lit≤ tt, (lit≤ tt, lit≤ tt, (lit≤ tt, lit≤ tt, (lit≤ tt, lit≤ tt, (lit≤ tt, lit≤ tt, (lit≤ tt, lit≤ tt, (lit≤ tt, lit≤ tt, (lit≤ tt, lit≤ tt, (lit≤ tt, lit≤ tt, (lit≤ tt, lit≤ tt, tt)))))))))));
-      whole = refl;
-      alike = λ vs. record { count = refl; span = refl; values = λ bs. refl; bits = λ us. packed_same (header_fields vs) (header_row 0) refl us };
-      count = λ x. refl;
-      back = λ h i. values_back h i.1;
-      forth = λ vs n k. named_back vs n k;
-      limited = λ vs n k. near vs n k;
-    }
+use Rattle.records.specs.Laws.{header_lawful}
 
 pub length_header : (h : Header) → length (header_bytes h) ≡ 27
 unfolding header_form
@@ -87,20 +50,10 @@ file_succeeds file bytes rest h l b r e v i n = (
   λ g q j k. let t = front file g q k in let w = n g j (b ∙ t.0) in (cc, r ∙ t.1),
 )
 
--- the residues of a header of 64-bit numbers whose fields keep their ranges
-header_near : (h : Header) → nat_abs h.locational_residue ≤ 2 ^ 63 → nat_abs h.other_residue ≤ 2 ^ 63 → AllKeep (header_fields (header_values h)) (header_values h) → ResiduesNear h
-header_near h a b k =
-    let k8 = keep_at (header_fields (header_values h)) (header_values h) 8 k (lit< tt) (lit< tt) in
-    let k9 = keep_at (header_fields (header_values h)) (header_values h) 9 k (lit< tt) (lit< tt) in
-    (twos_near 10000000000 h.locational_residue (lit< tt) a k8.1, twos_near 10000000000 h.other_residue (lit< tt) b k9.1)
-
 -- a header that is written is read back
-pub header_stands : (h : Header) (vs : List ℕ) (gs : List Field) → nat_abs h.locational_residue ≤ 2 ^ 63 → nat_abs h.other_residue ≤ 2 ^ 63 → vs ≡ header_values h → gs ≡ header_fields vs → AllKeep gs vs
+pub header_stands : (h : Header) → HeaderIn h → record_fault header_form 0 (header_bytes h) ≡ None → record_of header_form (header_bytes h) ≡ h
     → HeaderIn h × (header_fault (header_bytes h) ≡ None) × (header_of (header_bytes h) ≡ h)
-unfolding header_form
-header_stands h vs gs a b v g k =
-    let k' : AllKeep (header_fields (header_values h)) (header_values h) = subst (λ (us : List ℕ). AllKeep (header_fields us) us) v (subst (λ (fs : List Field). AllKeep fs vs) g k) in
-    let s = write_stands header_form header_lawful 0 h vs gs v g (header_near h a b k') k in
+header_stands h i n e =
     let l : 27 ≤ length (header_bytes h) = omega (arith, length_header h) in
     let t : take 27 (header_bytes h) ≡ header_bytes h = take_all 27 (header_bytes h) (omega (arith, length_header h)) in
-    (s.0, file_long (header_bytes h) l ∙ (ap (record_fault header_form 0) t ∙ s.1.0), ap (record_of header_form) t ∙ s.1.1)
+    (i, file_long (header_bytes h) l ∙ (ap (record_fault header_form 0) t ∙ n), ap (record_of header_form) t ∙ e)

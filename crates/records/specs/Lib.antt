@@ -3,3 +3,4 @@ pub mod Uses
 pub mod Points
 pub mod Headers
 pub mod Bills
+pub mod Laws

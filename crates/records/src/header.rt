@@ -1,16 +1,17 @@
 // The header of a year file, its first 27 bytes.
-ghost use Rattle.std.specs.Prelude.{◌≡◌, ℕ, ◌^◌, ◌≤◌, List, ◌++◌, length, drop, IfOk, Some, None, Ok, MatchResult, OnOk, unsigned_abs};
+#![tactic(auto, unfolding(crate::specs::Headers::header_form))]
+
+ghost use Rattle.std.specs.Prelude.{◌≡◌, ℕ, List, ◌++◌, length, drop, IfOk, Some, None, MatchResult, OnOk};
 ghost use Rattle.std.specs.Result.{result_err};
-ghost use Rattle.bits.specs.Forms.{record_of, record_fault};
 ghost use Rattle.bits.specs.Laid.{laid};
-ghost use Rattle.bits.specs.Layout.{AllKeep};
-ghost use Rattle.records.specs.Headers.{header_row, header_fields, header_values, header_named, header_form, header_of, header_fault, header_bytes, header_refusal, HeaderIn};
+ghost use Rattle.records.specs.Headers.{header_form, header_of, header_fault, header_bytes, header_refusal, HeaderIn};
+ghost use Rattle.records.specs.Laws.{header_lawful, header_sized};
 
 use bits::fault::Fault;
 use bits::field::Field;
-use bits::fields::{check, decode};
+use bits::layout::Layout;
 use bits::lengths::leading;
-use bits::rows::write_row;
+use bits::row::Row;
 
 #[derive(Clone, Copy, Debug, PartialEq, Eq)]
 pub struct Header {
@@ -29,51 +30,50 @@ const REVENUE: u64 = 100_000_000_000;
 
 const RESIDUE: u64 = 10_000_000_000;
 
-impl Header {
+impl Row<11, 27> for Header {
+    ghost form = { header_form };
+
+    ghost sized = { header_sized };
+
+    ghost lawful = { header_lawful };
+
     // The common operating cost is at most the allowed revenue.
-    fn fields(allowed: u64) -> [Field; 11]
-        ensures { result ≡ header_row allowed }
-    {
-        [
-            Field::only(4, 1),
-            Field::plain(14, 2000, 2999),
-            Field::plain(7, 1, 64),
-            Field::plain(9, 0, 256),
-            Field::plain(13, 0, 4096),
-            Field::only(1, 0),
-            Field::plain(37, 0, REVENUE),
-            Field::plain(37, 0, allowed),
-            Field::signed(35, RESIDUE),
-            Field::signed(35, RESIDUE),
-            Field::free(24),
-        ]
+    fn layout(values: &[u64; 11]) -> Layout<11, 27> {
+        let allowed = values[6];
+        Layout {
+            fields: [
+                Field::only(4, 1),
+                Field::plain(14, 2000, 2999),
+                Field::plain(7, 1, 64),
+                Field::plain(9, 0, 256),
+                Field::plain(13, 0, 4096),
+                Field::only(1, 0),
+                Field::plain(37, 0, REVENUE),
+                Field::plain(37, 0, allowed),
+                Field::signed(35, RESIDUE),
+                Field::signed(35, RESIDUE),
+                Field::free(24),
+            ],
+        }
     }
 
-    fn values(&self) -> [u64; 11]
-        ensures value { result ≡ header_values self.now }
-        ensures locational { unsigned_abs self.now.locational_residue ≤ 2 ^ 63 }
-        ensures other { unsigned_abs self.now.other_residue ≤ 2 ^ 63 }
-    {
+    fn values(&self) -> [u64; 11] {
         [
             1,
-            self.year as u64,
-            self.points as u64,
-            self.elements as u64,
-            self.uses as u64,
+            u64::from(self.year),
+            u64::from(self.points),
+            u64::from(self.elements),
+            u64::from(self.uses),
             0,
             self.allowed_revenue,
             self.common_operating_cost,
             self.locational_residue.cast_unsigned(),
             self.other_residue.cast_unsigned(),
-            self.common_cost as u64,
+            u64::from(self.common_cost),
         ]
     }
 
-    // The header of values that keep their ranges.
-    fn named(values: [u64; 11]) -> Header
-        requires { AllKeep (header_fields values) values }
-        ensures { result ≡ header_named values }
-    {
+    fn named(values: &[u64; 11]) -> Header {
         let [
             _,
             year,
@@ -86,7 +86,7 @@ impl Header {
             locational,
             other,
             cost,
-        ] = values;
+        ] = *values;
         Header {
             year: year as u16,
             points: points as u16,
@@ -99,19 +99,9 @@ impl Header {
             common_cost: cost as u32,
         }
     }
+}
 
-    // The header in its bytes, or the fault of the first field that breaks its range.
-    fn read_bytes(bytes: &[u8; 27]) -> Result<Header, Fault>
-        ensures fault { result_err result ≡ record_fault header_form 0 bytes.now }
-        ensures value { IfOk result (λ h. h ≡ record_of header_form bytes.now) }
-        ensures exact { MatchResult result (λ h. HeaderIn h × (bytes.now ≡ header_bytes h)) (λ f. record_fault header_form 0 bytes.now ≡ Some f) }
-        ensures found { (h : Header) → HeaderIn h → bytes.now ≡ header_bytes h → result ≡ Ok h }
-    {
-        let values: [u64; 11] = decode(&Header::fields(0), bytes);
-        check(&Header::fields(values[6]), &values, 0)?;
-        Ok(Header::named(values))
-    }
-
+impl Header {
     // The header of a file, and the rest of the file.
     pub fn read(file: &[u8]) -> Result<(Header, &[u8]), Fault>
         ensures fault { result_err result ≡ header_fault file.now }
@@ -120,7 +110,7 @@ impl Header {
         ensures found { (h : Header) (rest : List ℕ) → HeaderIn h → file.now ≡ header_bytes h ++ rest → MatchResult result (λ p. (p.0 ≡ h) × (p.1.now ≡ rest)) (λ _. ⊥) }
     {
         let (bytes, rest) = leading::<27>(file)?;
-        let header = Header::read_bytes(bytes)?;
+        let header: Header = Row::read(bytes, 0)?;
         Ok((header, rest))
     }
 
@@ -131,7 +121,6 @@ impl Header {
         ensures after { buffer.new ≡ laid result (header_bytes self.now) buffer.old }
         ensures back { OnOk result (HeaderIn self.now × (header_fault (header_bytes self.now) ≡ None) × (header_of (header_bytes self.now) ≡ self.now)) }
     {
-        let fields = Header::fields(self.allowed_revenue);
-        write_row::<27>(&fields, &self.values(), buffer, 0)
+        Row::write(self, buffer, 0)
     }
 }

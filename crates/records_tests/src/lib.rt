@@ -10,6 +10,7 @@ mod tests {
     use crate::bytes::*;
     use bits::fault::Fault;
     use bits::refusal::Refusal;
+    use bits::row::Row;
     use records::bill::Bill;
     use records::element::Element;
     use records::header::Header;

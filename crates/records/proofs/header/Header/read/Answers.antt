@@ -1,10 +1,12 @@
 use Rattle.std.proofs.Common.{length, Some, sym, ap, ◌∙◌}
 use Rattle.std.proofs.lemmas.Result.{err_from_is_err_and}
 use Rattle.bits.proofs.Counting.{short_told, not_short}
+use Rattle.records.specs.Headers.{header_form}
 use Rattle.records.proofs.HeaderLaws.{file_short, file_fails, file_succeeds}
 use Rattle.records.proofs.header.Header.read.Goals as goal
 
 pub returns-in_err-bytes : goal.returns-in_err-bytes
+unfolding header_form
 returns-in_err-bytes c =
     let p = err_from_is_err_and c.from_residual.result c.from_residual.ensures.1 in
     let t = short_told 27 (length c.args.file.now) _ c.in_err-bytes.ensures.fault in
@@ -13,6 +15,7 @@ returns-in_err-bytes c =
     rw (p.1, p.2) (record { fault = e; value = tt; exact = sym e; found = s.1 })
 
 pub returns-in_err-header : goal.returns-in_err-header
+unfolding header_form
 returns-in_err-header c =
     let p = err_from_is_err_and c.from_residual-in_err-header.result c.from_residual-in_err-header.ensures.1 in
     let k = c.in_ok-bytes.ensures.value in
@@ -21,6 +24,7 @@ returns-in_err-header c =
     rw (p.1, p.2) (record { fault = s.0; value = tt; exact = sym s.0; found = s.1 })
 
 pub returns : goal.returns
+unfolding header_form
 returns c =
     let k = c.in_ok-bytes.ensures.value in
     let l = not_short 27 (length c.args.file.now) c.in_ok-bytes.ensures.fault in

@@ -1,6 +1,0 @@
-use Rattle.std.proofs.Common.{◌≡◌, ◌+◌, drop}
-use Rattle.bits.specs.Layout.{first_bad}
-use Rattle.bits.proofs.fields.check.Given as goal
-
-abbrev pub invariant-loop-i : goal.invariant-loop-i
-invariant-loop-i l = first_bad l.record 1 l.fields l.values ≡ first_bad l.record (l.i + 1) (drop l.i l.fields) (drop l.i l.values)
