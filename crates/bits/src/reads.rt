@@ -25,10 +25,10 @@ impl<'a> Reader<'a> {
         ensures after { ahead self.new ≡ drop count (ahead self.old) }
     {
         let [first, tail @ ..] = self.rest else {
-            unreachable()
+            unreachable!()
         };
         let low = 8 - self.used - count;
-        let value = (*first as u64 >> low) % (1 << count);
+        let value = (u64::from(*first) >> low) % (1 << count);
         if low == 0 {
             self.rest = tail;
             self.used = 0;
