@@ -27,10 +27,7 @@ use Rattle.records.specs.declared.element.Element.{Element}
 use Rattle.records.specs.declared.header.Header.{Header}
 use Rattle.records.specs.declared.network_use.NetworkUse.{NetworkUse}
 use Rattle.records.specs.declared.point.Point.{Point}
-use Rattle.records.proofs.ElementLaws.{element_lawful}
-use Rattle.records.proofs.HeaderLaws.{header_lawful}
-use Rattle.records.proofs.PointLaws.{point_lawful}
-use Rattle.records.proofs.UseLaws.{use_lawful}
+use Rattle.records.specs.Laws.{element_lawful, header_lawful, point_lawful, use_lawful}
 use Rattle.year.proofs.Reading.{counts, ranges, limits}
 use Rattle.year.specs.YearBytes.{year_bytes, Sound}
 use Rattle.year.specs.YearFile.{year_after, year_of, first_fault}
@@ -116,23 +113,25 @@ module _ (d : YearData) (so : Sound d) where
       let c : (get_or d.uses k no_use).demand ≤ 16777215 = omega (arith, own, g, u) in
       ((omega (arith, a), (omega arith, a)), ((omega (arith, b), (omega arith, b)), ((omega (arith, c), (omega arith, c)), ((refl, (omega arith, omega arith)), tt))))
 
-  pub points_in : AllByRecursion PointIn d.points
-  points_in = All-from_get_or PointIn d.points no_point point_in
+  pub header_ranged : InRange header_form d.header
+  unfolding header_form
+  header_ranged = header_in
 
-  pub elements_in : AllByRecursion ElementIn d.elements
-  elements_in = All-from_get_or ElementIn d.elements no_element element_in
+  pub points_ranged : AllByRecursion (InRange point_form) d.points
+  unfolding point_form
+  points_ranged = All-from_get_or (InRange point_form) d.points no_point (λ k l. (point_in k l, tt))
 
-  pub uses_in : AllByRecursion UseIn d.uses
-  uses_in = All-from_get_or UseIn d.uses no_use use_in
+  pub elements_ranged : AllByRecursion (InRange element_form) d.elements
+  unfolding element_form
+  elements_ranged = All-from_get_or (InRange element_form) d.elements no_element (λ k l. (element_in k l, tt))
+
+  pub uses_ranged : AllByRecursion (InRange use_form) d.uses
+  unfolding use_form
+  uses_ranged = All-from_get_or (InRange use_form) d.uses no_use (λ k l. (use_in k l, tt))
 
 -- the records of a year without its header
 abbrev body : YearData → List ℕ
 body d = flat_map point_bytes d.points ++ (flat_map element_bytes d.elements ++ flat_map use_bytes d.uses)
-
--- records that keep their ranges, of a kind that sets no further limits
-ranged : {X : Type 0} {P Q : X → Type 0} (xs : List X) → ((x : X) → P x → Q x) → AllByRecursion P xs → AllByRecursion Q xs
-ranged [] f h = tt
-ranged (x ∷ xs) f h = (f x h.0, ranged xs f h.1)
 
 module _ (d : YearData) (so : Sound d) where
   abbrev h : Header
@@ -146,22 +145,6 @@ module _ (d : YearData) (so : Sound d) where
 
   abbrev us : List NetworkUse
   us = d.uses
-
-  header_ranged : InRange header_form h
-  unfolding header_form
-  header_ranged = header_in d so
-
-  points_ranged : AllByRecursion (InRange point_form) ps
-  unfolding point_form
-  points_ranged = ranged ps (λ x k. (k, tt)) (points_in d so)
-
-  elements_ranged : AllByRecursion (InRange element_form) es
-  unfolding element_form
-  elements_ranged = ranged es (λ x k. (k, tt)) (elements_in d so)
-
-  uses_ranged : AllByRecursion (InRange use_form) us
-  unfolding use_form
-  uses_ranged = ranged us (λ x k. (k, tt)) (uses_in d so)
 
   point_parts : first_chunks 15 h.points (body d) ≡ map point_bytes ps
   unfolding point_form
@@ -192,15 +175,15 @@ module _ (d : YearData) (so : Sound d) where
       ∙ (ap (first_chunks 5 (length us)) (sym (append-nil (flat_map use_bytes us))) ∙ parts_all use_form us []))
 
   year_back : year_after h (body d) ≡ d
-  year_back = rw (point_parts, element_parts, use_parts, read_back point_form point_lawful ps points_ranged, read_back element_form element_lawful es elements_ranged, read_back use_form use_lawful us uses_ranged)
+  year_back = rw (point_parts, element_parts, use_parts, read_back point_form point_lawful ps (points_ranged d so), read_back element_form element_lawful es (elements_ranged d so), read_back use_form use_lawful us (uses_ranged d so))
 
   told_back : first_told_fault (told_after h (body d)) ≡ None
   unfolding first_told_fault
   told_back =
       rw (point_parts, element_parts, use_parts, ← append-nil {A = ℕ → Told} (map (λ b n. a_use b n) (map use_bytes us)))
-      (none_told a_point _ (map point_bytes ps) (none_back point_form point_lawful ps points_ranged)
-      (none_told an_element _ (map element_bytes es) (none_back element_form element_lawful es elements_ranged)
-      (none_told a_use [] (map use_bytes us) (none_back use_form use_lawful us uses_ranged) (λ n. refl)))
+      (none_told a_point _ (map point_bytes ps) (none_back point_form point_lawful ps (points_ranged d so))
+      (none_told an_element _ (map element_bytes es) (none_back element_form element_lawful es (elements_ranged d so))
+      (none_told a_use [] (map use_bytes us) (none_back use_form use_lawful us (uses_ranged d so)) (λ n. refl)))
       0)
 
   pub length-body : length (body d) ≡ announced h
@@ -221,12 +204,12 @@ module _ (d : YearData) (so : Sound d) where
   after = drop_at (header_bytes h) (body d) 27 length-head
 
   header_back : header_of (year_bytes d) ≡ h
-  header_back = ap (record_of header_form) head ∙ (written_read header_form header_lawful 0 h header_ranged).1
+  header_back = ap (record_of header_form) head ∙ (written_read header_form header_lawful 0 h (header_ranged d so)).1
 
   header_fine : header_fault (year_bytes d) ≡ None
   header_fine =
       let long : 27 ≤ length (year_bytes d) = simp length-append (omega (arith, length-head)) in
-      let f : record_fault header_form 0 (take 27 (year_bytes d)) ≡ None = ap (record_fault header_form 0) head ∙ (written_read header_form header_lawful 0 h header_ranged).0 in
+      let f : record_fault header_form 0 (take 27 (year_bytes d)) ≡ None = ap (record_fault header_form 0) head ∙ (written_read header_form header_lawful 0 h (header_ranged d so)).0 in
       let t : ltb (length (year_bytes d)) 27 ≡ false = grind (arith, nat_tests) in
       rw (t, f)
 

@@ -9,6 +9,7 @@ ghost use Rattle.yearfile.specs.Told.{to_come, first_told_fault};
 use crate::lists::Lists;
 use agreement::agree::check;
 use bits::fault::Fault;
+use bits::row::Row;
 use records::element::Element;
 use records::header::Header;
 use records::network_use::NetworkUse;

@@ -1,6 +1,7 @@
 -- Bytes laid one after another. Assumes nothing.
-use Rattle.std.proofs.Common.{◌≡◌, ℕ, ◌+◌, ◌-◌, ◌<◌, ◌≤◌, List, [], ◌∷◌, ◌++◌, length, get_or, take, drop, Some, None, Option, sym, refl, ap, ◌∙◌, append_assoc, append-nil, add-zero, arith, length-append}
+use Rattle.std.proofs.Common.{◌≡◌, ℕ, ◌+◌, ◌-◌, ◌<◌, ◌≤◌, List, [], ◌∷◌, ◌++◌, length, get_or, take, drop, Some, None, Option, Ok, Err, Result, sym, refl, ap, ◌∙◌, append_assoc, append-nil, add-zero, arith, length-append}
 use Rattle.std.specs.List.{flat_map}
+use Rattle.std.specs.Result.{IsOk, result_err}
 use borrow.Rule.Slice.PartMut.{put_mid}
 use Rattle.std.proofs.lemmas.List.{take-append-drop, flat_map_more, take_more, take_rest, drop_all, length-take-le, length-drop, drop-drop, take_at, drop_at}
 use Rattle.std.proofs.lemmas.List.Folds.{length-flat_map-take}
@@ -30,16 +31,16 @@ put_laid at bytes buffer last h e =
 
 -- What a record laid from `at` on leaves, and that it is never refused.
 module _ {X : Type 0} (F : Form X) (x : X) (at : ℕ) (buffer : List ℕ) (room : at + length (record_bytes F x) ≤ length buffer) where
-  pub lay_never : (f : Fault) → InRange F x → Some f ≡ record_refusal F 0 x (length (take (length buffer - at) (drop at buffer))) → ⊥
+  lay_never : (f : Fault) → InRange F x → Some f ≡ record_refusal F 0 x (length (take (length buffer - at) (drop at buffer))) → ⊥
   lay_never f h e =
       let n : length (take (length buffer - at) (drop at buffer)) ≡ length buffer - at = ap length (take_rest buffer at) ∙ length-drop at buffer in
       let s : F.size ≤ length (take (length buffer - at) (drop at buffer)) = omega (arith, length_record F x) in
       let z : ◌≡◌ {A = Option Fault} (Some f) None = e ∙ sym (written F 0 _ x h s) in
       grind arith
 
-  pub lay_done : (count : ℕ) (last : List ℕ) → count ≡ F.size → last ≡ over (record_bytes F x) (take (length buffer - at) (drop at buffer))
-      → (put_mid at (length buffer - at) buffer last ≡ laid_at at (record_bytes F x) buffer) × (at + count ≡ at + length (record_bytes F x))
-  lay_done count last c e = (put_laid at (record_bytes F x) buffer last room e, omega (arith, length_record F x))
+  pub lay_ok : (r : Result ℕ Fault) → InRange F x → result_err r ≡ record_refusal F 0 x (length (take (length buffer - at) (drop at buffer))) → IsOk r
+  lay_ok (Ok n) h e = refl
+  lay_ok (Err f) h e = absurd (lay_never f h e)
 
 -- The loop that lays records one by one.
 pub laid_none : (at : ℕ) (buffer : List ℕ) → buffer ≡ laid_at at [] buffer

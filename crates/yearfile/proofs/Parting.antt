@@ -7,7 +7,8 @@ use Rattle.bits.specs.Forms.{Form, record_of, record_fault, record_bytes, InRang
 use Rattle.bits.specs.Laid.{◌or_else◌}
 use Rattle.bits.specs.declared.fault.Fault.{Fault}
 use Rattle.bits.proofs.Digits.{Bytes}
-use Rattle.bits.proofs.Trips.{Lawful, length_record, written_read, read_written}
+use Rattle.bits.specs.Rows.{Lawful}
+use Rattle.bits.proofs.Trips.{length_record, written_read, read_written}
 use Rattle.yearfile.specs.Told.{Told, numbered, told_fault, first_told_fault}
 
 pub bytes_drop : (n : ℕ) (bs : List ℕ) → Bytes bs → Bytes (drop n bs)

@@ -1,5 +1,5 @@
 use Rattle.std.proofs.Common.{length, arith}
-use Rattle.year.proofs.Rounds.{header_in, points_in, elements_in, uses_in, written_then_read}
+use Rattle.year.proofs.Rounds.{header_ranged, points_ranged, elements_ranged, uses_ranged, written_then_read}
 use Rattle.year.proofs.Sending.{sound_of, short, fits, rooms, sent}
 use Rattle.year.proofs.year.Year.write.Goals as goal
 
@@ -11,20 +11,20 @@ pub lay-past_header-requires : goal.lay-past_header-requires
 lay-past_header-requires c =
     let so = sound_of c.in_ok-lists.field-0 in
     let r = rooms _ so (length c.args.buffer.now) (omega arith) in
-    record { ranged = header_in _ so; room = omega arith }
+    record { ranged = header_ranged _ so; room = omega arith }
 
 pub lay_all-past_points-requires : goal.lay_all-past_points-requires
 lay_all-past_points-requires c =
     let so = sound_of c.in_ok-lists.field-0 in
     let r = rooms _ so (length c.args.buffer.now) (omega arith) in
-    rw c.deref.ensures.value (record { ranged = points_in _ so; room = omega arith })
+    rw c.deref.ensures.value (record { ranged = points_ranged _ so; room = omega arith })
 
 pub lay_all-past_elements-requires : goal.lay_all-past_elements-requires
 lay_all-past_elements-requires c =
     let so = sound_of c.in_ok-lists.field-0 in
     let r = rooms _ so (length c.args.buffer.now) (omega arith) in
     let p = rw c.deref.ensures.value at c.lay_all-past_points.ensures.end in
-    rw c.deref-2.ensures.value (record { ranged = elements_in _ so; room = omega arith })
+    rw c.deref-2.ensures.value (record { ranged = elements_ranged _ so; room = omega arith })
 
 pub lay_all-requires : goal.lay_all-requires
 lay_all-requires c =
@@ -32,7 +32,7 @@ lay_all-requires c =
     let r = rooms _ so (length c.args.buffer.now) (omega arith) in
     let p = rw c.deref.ensures.value at c.lay_all-past_points.ensures.end in
     let e = rw c.deref-2.ensures.value at c.lay_all-past_elements.ensures.end in
-    rw c.deref-3.ensures.value (record { ranged = uses_in _ so; room = omega arith })
+    rw c.deref-3.ensures.value (record { ranged = uses_ranged _ so; room = omega arith })
 
 pub returns : goal.returns
 returns c =
