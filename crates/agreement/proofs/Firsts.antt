@@ -1,51 +1,18 @@
 -- The first fault at a run of places, step by step. Assumes nothing.
-use Rattle.std.proofs.Common.{◌≡◌, ℕ, zero, suc, ◌+◌, ◌-◌, ◌<◌, ◌≤◌, Bool, true, false, ◌⊎◌, List, length, get_or, drop, Some, None, Option, sym, refl, ap, ◌∙◌, ⊎_elim, add-zero, zero-add, arith}
-use Rattle.std.proofs.lemmas.List.{drop_more, drop_all}
-use Rattle.std.proofs.lemmas.Bool.Decides.{nat_tests}
+use Rattle.std.proofs.Common.{◌≡◌, ℕ, zero, suc, ◌+◌, ◌<◌, Bool, true, false, ◌⊎◌, Some, None, Option, sym, refl, ap, ◌∙◌, ⊎_elim, add-zero, zero-add, arith}
 use Rattle.bits.specs.Laid.{◌or_else◌}
 use Rattle.bits.specs.declared.fault.Fault.{Fault}
-use Rattle.records.specs.declared.point.Point.{Point}
-use Rattle.agreement.specs.Together.{first_fault_among, free, no_point, unless}
+use Rattle.agreement.specs.Together.{first_fault_among, unless}
 
-module _ (n i : ℕ) (fault_at : ℕ → Option Fault) where
-  -- a fault here is the first of those that are left
-  pub first_here : (x : Fault) → i < n → fault_at i ≡ Some x → first_fault_among (n - i) i fault_at ≡ Some x
-  unfolding first_fault_among
-  first_here x h e =
-      let k : n - i ≡ suc (n - (i + 1)) = omega arith in
-      rw k (ap (λ (o : Option Fault). o or_else first_fault_among (n - (i + 1)) (suc i) fault_at) e)
-
-  -- with none here, it is the first of those after it
-  pub first_past : i < n → fault_at i ≡ None → first_fault_among (n - i) i fault_at ≡ first_fault_among (n - (i + 1)) (i + 1) fault_at
-  unfolding first_fault_among
-  first_past h e =
-      let k : n - i ≡ suc (n - (i + 1)) = omega arith in
-      let s : suc i ≡ i + 1 = omega arith in
-      rw k (ap (λ (o : Option Fault). o or_else first_fault_among (n - (i + 1)) (suc i) fault_at) e ∙ ap (λ (j : ℕ). first_fault_among (n - (i + 1)) j fault_at) s)
-
-  pub first_none : n ≤ i → first_fault_among (n - i) i fault_at ≡ None
-  unfolding first_fault_among
-  first_none h = let k : n - i ≡ 0 = omega arith in rw k
-
-pub passed : {test : Bool} (x : Fault) → true ≡ test → unless test x ≡ None
-passed {test} x e = sym (ap (λ (b : Bool). unless b x) e)
-
-pub failed : {test : Bool} (x : Fault) → false ≡ test → unless test x ≡ Some x
-failed {test} x e = sym (ap (λ (b : Bool). unless b x) e)
-
--- one more point that an identifier is held against
-module _ (x : ℕ) (ps : List Point) (i : ℕ) where
-  pub taken : i < length ps → (get_or ps i no_point).identifier ≡ x → free x (drop i ps) ≡ false
-  unfolding free
-  taken h e = rw (drop_more ps i no_point h) (grind (arith, nat_tests))
-
-  pub free-past : i < length ps → ((get_or ps i no_point).identifier ≡ x → ⊥) → free x (drop i ps) ≡ free x (drop (i + 1) ps)
-  unfolding free
-  free-past h e = rw (drop_more ps i no_point h) (grind (arith, nat_tests))
-
-  pub free_none : length ps ≤ i → free x (drop i ps) ≡ true
-  unfolding free
-  free_none h = rw (drop_all i ps h)
+-- the first place with a fault, where those before it have none
+first_at : (n i k : ℕ) (fault_at : ℕ → Option Fault) (x : Fault) → k < n → fault_at (i + k) ≡ Some x → ((j : ℕ) → j < k → fault_at (i + j) ≡ None) → first_fault_among n i fault_at ≡ Some x
+unfolding first_fault_among
+first_at zero i k fault_at x l e before = absurd (omega arith)
+first_at (suc n) i zero fault_at x l e before = grind arith
+first_at (suc n) i (suc k) fault_at x l e before =
+    let s : i + suc k ≡ suc i + k = omega arith in
+    let rest = first_at n (suc i) k fault_at x (omega arith) (rw s at e) (λ j m. let t : suc i + j ≡ i + suc j = omega arith in rw t (before (suc j) (omega arith))) in
+    grind (arith, before 0 (omega arith))
 
 -- no place has a fault
 none_all : (n i : ℕ) (fault_at : ℕ → Option Fault) → ((k : ℕ) → k < n → fault_at (i + k) ≡ None) → first_fault_among n i fault_at ≡ None
@@ -58,6 +25,15 @@ none_all (suc n) i fault_at h =
 
 pub none_each : (n : ℕ) (fault_at : ℕ → Option Fault) → ((k : ℕ) → k < n → fault_at k ≡ None) → first_fault_among n 0 fault_at ≡ None
 none_each n fault_at h = none_all n 0 fault_at (λ k l. ap fault_at (zero-add k) ∙ h k l)
+
+-- the first place whose test fails has the first fault
+pub first_failing : (n k : ℕ) (test : ℕ → Bool) (fault : ℕ → Fault) → k < n → test k ≡ false → ((j : ℕ) → j < k → test j ≡ true) → Some (fault k) ≡ first_fault_among n 0 (λ i. unless (test i) (fault i))
+first_failing n k test fault l fails before =
+    let here : unless (test (0 + k)) (fault (0 + k)) ≡ Some (fault k) = rw (zero-add k, fails) in
+    sym (first_at n 0 k (λ i. unless (test i) (fault i)) (fault k) l here (λ j m. rw (zero-add j, before j m)))
+
+pub none_failing : (n : ℕ) (test : ℕ → Bool) (fault : ℕ → Fault) → ((k : ℕ) → k < n → test k ≡ true) → None ≡ first_fault_among n 0 (λ i. unless (test i) (fault i))
+none_failing n test fault h = sym (none_each n (λ i. unless (test i) (fault i)) (λ k l. rw (h k l)))
 
 -- where every place has one and the same fault or none, one place with it is enough
 pub first_some : (n i k : ℕ) (fault_at : ℕ → Option Fault) (x : Fault) → ((j : ℕ) → (fault_at j ≡ None) ⊎ (fault_at j ≡ Some x)) → k < n → fault_at (i + k) ≡ Some x → first_fault_among n i fault_at ≡ Some x

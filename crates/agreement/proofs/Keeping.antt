@@ -1,6 +1,7 @@
 -- Records without a fault together keep the limits. Assumes nothing.
-use Rattle.std.proofs.Common.{◌≡◌, ℕ, zero, suc, ◌+◌, ◌-◌, ◌<◌, ◌≤◌, Bool, true, ltb, List, [], ◌∷◌, length, get_or, take, Some, None, Option, refl, ap, ◌∙◌, add-zero, zero-add, arith}
+use Rattle.std.proofs.Common.{◌≡◌, ℕ, zero, suc, ◌+◌, ◌-◌, ◌<◌, ◌≤◌, Bool, true, not, eqb, ltb, List, length, get_or, take, Some, None, Option, refl, ap, ◌∙◌, add-zero, zero-add, arith}
 use Rattle.std.proofs.lemmas.List.{get_or-take, length-take-le}
+use Rattle.std.proofs.lemmas.List.Sums.{AllPass-from_list_all}
 use Rattle.std.proofs.lemmas.Bool.Decides.{nat_tests}
 use Rattle.bits.specs.Laid.{◌or_else◌}
 use Rattle.bits.specs.declared.fault.Fault.{Fault}
@@ -30,18 +31,14 @@ none_from n k fault_at h l = none_at n 0 k fault_at h l ∙ ap fault_at (zero-ad
 passes : {test : Bool} (x : Fault) → None ≡ unless test x → test ≡ true
 passes {test} x h = grind arith
 
-free_of : (x : ℕ) (ps : List Point) (i : ℕ) → free x ps ≡ true → i < length ps → (get_or ps i no_point).identifier ≡ x → ⊥
-unfolding free
-free_of x [] i h l e = omega arith
-free_of x (p ∷ ps) zero h l e = grind (arith, nat_tests)
-free_of x (p ∷ ps) (suc i) h l e = let k : free x ps ≡ true = grind (arith, nat_tests) in free_of x ps i k (omega arith) e
-
 pub distinct : (ps : List Point) → None ≡ repeated_fault ps → Distinct ps
 distinct ps h i j l m e =
-    let b : free (get_or ps j no_point).identifier (take j ps) ≡ true = passes _ (none_from (length ps) j (repeated_at ps) h m) in
+    let x = (get_or ps j no_point).identifier in
+    let b : free x (take j ps) ≡ true = passes _ (none_from (length ps) j (repeated_at ps) h m) in
     let t : length (take j ps) ≡ j = length-take-le j ps (omega arith) in
+    let a = AllPass-from_list_all (λ (p : Point). not (eqb p.identifier x)) (take j ps) b i no_point (omega arith) in
     let g : get_or (take j ps) i no_point ≡ get_or ps i no_point = get_or-take j ps i no_point l in
-    free_of (get_or ps j no_point).identifier (take j ps) i b (omega arith) (ap (λ (p : Point). p.identifier) g ∙ e)
+    grind (arith, nat_tests)
 
 module _ (points elements : ℕ) (us : List NetworkUse) (h : None ≡ misplaced_fault points elements us) (k : ℕ) (l : k < length us) where
   placed : placed_at points elements us k ≡ true

@@ -1,5 +1,6 @@
 -- What is wrong with the records of a year taken together: the faults 4 to 7.
-use Rattle.std.specs.Prelude.{ℕ, zero, suc, ◌+◌, ◌-◌, ◌*◌, Bool, true, cond, not, ◌&&◌, ◌||◌, List, [], ◌∷◌, length, take, Some, None, Option, ◌==◌, nat_le, nat_lt, slice_index_or}
+use Rattle.std.specs.Prelude.{ℕ, zero, suc, ◌+◌, ◌-◌, ◌*◌, Bool, cond, not, ◌&&◌, ◌||◌, List, length, take, Some, None, Option, ◌==◌, nat_le, nat_lt, slice_index_or}
+use Rattle.std.specs.List.{list_all}
 use Rattle.bits.specs.Faults.{year_fault}
 use Rattle.bits.specs.Laid.{◌or_else◌}
 use Rattle.bits.specs.declared.fault.Fault.{Fault}
@@ -29,9 +30,8 @@ first_fault_among zero i fault_at = None
 first_fault_among (suc n) i fault_at = fault_at i or_else first_fault_among n (suc i) fault_at
 
 -- whether no point has this identifier
-unfoldable pub free : ℕ → List Point → Bool
-free x [] = true
-free x (p ∷ ps) = not (p.identifier == x) && free x ps
+abbrev pub free : ℕ → List Point → Bool
+free x ps = list_all (λ (p : Point). not (p.identifier == x)) ps
 
 -- 4: the point at place i has the identifier of an earlier one
 abbrev pub repeated_at : List Point → ℕ → Option Fault

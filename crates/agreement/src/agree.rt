@@ -5,8 +5,9 @@ ghost use Rattle.agreement.specs.Agreement.{together_fault};
 ghost use Rattle.agreement.specs.Data.{year_data, Few};
 
 use crate::checks::{check_identifiers, check_uses};
-use crate::sums::{check_some, check_used, check_within, network_cost_of, point_totals};
+use crate::sums::{check_total, check_used, network_cost_of, point_totals};
 use bits::fault::Fault;
+use bits::refusal::Refusal;
 use records::element::Element;
 use records::header::Header;
 use records::network_use::NetworkUse;
@@ -32,11 +33,12 @@ pub fn check(
     check_uses(uses, points.len(), elements.len())?;
     let totals = point_totals(points);
     let network = network_cost_of(elements);
-    let cost = totals.entry_cost + totals.exit_cost + network + header.common_cost as u64;
-    check_within(cost, MAX_COST)?;
-    check_within(totals.demand, MAX_DEMAND)?;
-    check_within(totals.energy, MAX_ENERGY)?;
+    let common = header.common_cost;
+    let cost = totals.entry_cost + totals.exit_cost + network + u64::from(common);
+    check_total(cost <= MAX_COST, Refusal::TotalOverLimit)?;
+    check_total(totals.demand <= MAX_DEMAND, Refusal::TotalOverLimit)?;
+    check_total(totals.energy <= MAX_ENERGY, Refusal::TotalOverLimit)?;
     check_used(uses, elements.len())?;
-    check_some(cost)?;
-    check_some(totals.energy)
+    check_total(cost > 0, Refusal::TotalZero)?;
+    check_total(totals.energy > 0, Refusal::TotalZero)
 }

@@ -12,31 +12,28 @@ use records::point::Point;
 fn is_free(identifier: u16, points: &[Point]) -> bool
     ensures { result ≡ free identifier points.now }
 {
-    for point in points {
-        if point.identifier == identifier {
-            return false;
-        }
-    }
-    true
+    points.iter().all(|point| point.identifier != identifier)
 }
 
 pub(crate) fn check_identifiers(points: &[Point]) -> Result<(), Fault>
     requires { length points.now ≤ 64 }
     ensures { result_err result ≡ repeated_fault points.now }
 {
-    for (i, point) in points.iter().enumerate() {
-        if !is_free(point.identifier, &points[0..i]) {
-            return Err(Fault::year(Refusal::IdentifierRepeated, i as u16 + 1));
-        }
+    let repeated = points
+        .iter()
+        .enumerate()
+        .position(|(i, point)| !is_free(point.identifier, &points[..i]));
+    match repeated {
+        Some(i) => Err(Fault::year(Refusal::IdentifierRepeated, i as u16 + 1)),
+        None => Ok(()),
     }
-    Ok(())
 }
 
 // The order of uses: by element, then by point.
 fn rank_of(network_use: NetworkUse) -> u32
     ensures { result ≡ rank network_use }
 {
-    network_use.element as u32 * 65_536 + network_use.point as u32
+    u32::from(network_use.element) * 65_536 + u32::from(network_use.point)
 }
 
 // Whether the use at a place names an element and a point that are there, and rises above the one before it.
@@ -45,8 +42,8 @@ fn is_placed(uses: &[NetworkUse], place: usize, points: usize, elements: usize) 
     ensures { result ≡ placed_at points elements uses.now place }
 {
     let network_use = uses[place];
-    (network_use.element as usize) < elements
-        && (network_use.point as usize) < points
+    usize::from(network_use.element) < elements
+        && usize::from(network_use.point) < points
         && (place == 0 || rank_of(uses[place - 1]) < rank_of(network_use))
 }
 
@@ -54,10 +51,12 @@ pub(crate) fn check_uses(uses: &[NetworkUse], points: usize, elements: usize) ->
     requires { (length uses.now ≤ 4096) × ((points ≤ 64) × (elements ≤ 256)) }
     ensures { result_err result ≡ misplaced_fault points elements uses.now }
 {
-    for i in 0..uses.len() {
-        if !is_placed(uses, i, points, elements) {
-            return Err(Fault::year(Refusal::UseMisplaced, (points + elements + i + 1) as u16));
-        }
+    let misplaced = uses
+        .iter()
+        .enumerate()
+        .position(|(i, _)| !is_placed(uses, i, points, elements));
+    match misplaced {
+        Some(i) => Err(Fault::year(Refusal::UseMisplaced, (points + elements + i + 1) as u16)),
+        None => Ok(()),
     }
-    Ok(())
 }

@@ -1,8 +1,9 @@
 // The totals of a year, held against their limits: the faults 6 and 7.
 ghost use Rattle.std.specs.Prelude.{◌≡◌, ℕ, ◌+◌, ◌*◌, ◌^◌, ◌<◌, ◌≤◌, length, slice_index_or};
 ghost use Rattle.std.specs.Result.{result_err};
+ghost use Rattle.bits.specs.Faults.{year_fault};
 ghost use Rattle.agreement.specs.Totals.{entry_cost_of, exit_cost_of, network_cost, total_demand, total_energy};
-ghost use Rattle.agreement.specs.Together.{no_use, over_fault, overused_fault, zero_fault};
+ghost use Rattle.agreement.specs.Together.{no_use, overused_fault, unless};
 
 use crate::totals::PointTotals;
 use bits::fault::Fault;
@@ -22,19 +23,15 @@ pub fn point_totals(points: &[Point]) -> PointTotals
     ensures energy { result.energy ≡ total_energy points.now }
     ensures small { (result.entry_cost ≤ 2 ^ 38) × (result.exit_cost ≤ 2 ^ 38) }
 {
-    let mut totals = PointTotals {
-        entry_cost: 0,
-        exit_cost: 0,
-        demand: 0,
-        energy: 0,
-    };
-    for point in points {
-        totals.entry_cost += point.entry_cost as u64;
-        totals.exit_cost += point.exit_cost as u64;
-        totals.demand += point.contract_demand as u64;
-        totals.energy += point.energy as u64;
+    PointTotals {
+        entry_cost: points.iter().map(|point| u64::from(point.entry_cost)).sum(),
+        exit_cost: points.iter().map(|point| u64::from(point.exit_cost)).sum(),
+        demand: points
+            .iter()
+            .map(|point| u64::from(point.contract_demand))
+            .sum(),
+        energy: points.iter().map(|point| u64::from(point.energy)).sum(),
     }
-    totals
 }
 
 pub fn network_cost_of(elements: &[Element]) -> u64
@@ -42,29 +39,18 @@ pub fn network_cost_of(elements: &[Element]) -> u64
     ensures value { result ≡ network_cost elements.now }
     ensures small { result ≤ 2 ^ 40 }
 {
-    let mut total = 0;
-    for element in elements {
-        total += element.cost as u64;
-    }
-    total
+    elements.iter().map(|element| u64::from(element.cost)).sum()
 }
 
-pub(crate) fn check_within(total: u64, limit: u64) -> Result<(), Fault>
-    ensures { result_err result ≡ over_fault total limit }
+// Refuses the year where what is asked of a total does not hold.
+pub(crate) fn check_total(holds: bool, refusal: Refusal) -> Result<(), Fault>
+    ensures { result_err result ≡ unless holds (year_fault refusal 0) }
 {
-    if total > limit {
-        return Err(Fault::year(Refusal::TotalOverLimit, 0));
+    if holds {
+        Ok(())
+    } else {
+        Err(Fault::year(refusal, 0))
     }
-    Ok(())
-}
-
-pub(crate) fn check_some(total: u64) -> Result<(), Fault>
-    ensures { result_err result ≡ zero_fault total }
-{
-    if total == 0 {
-        return Err(Fault::year(Refusal::TotalZero, 0));
-    }
-    Ok(())
 }
 
 // Holds the uses of each element against their limit.
@@ -73,12 +59,12 @@ pub(crate) fn check_used(uses: &[NetworkUse], elements: usize) -> Result<(), Fau
     requires named { (k : ℕ) → k < length uses.now → (slice_index_or uses.now k no_use).element < elements }
     ensures { result_err result ≡ overused_fault elements uses.now }
 {
+    // A total for each element that a year has room for, found by its place.
     let mut used = [0u64; 256];
     for network_use in uses {
-        let element = network_use.element as usize;
-        let total = used[element] + network_use.demand as u64;
-        check_within(total, MAX_USE)?;
-        used[element] = total;
+        let total = &mut used[usize::from(network_use.element)];
+        *total += u64::from(network_use.demand);
+        check_total(*total <= MAX_USE, Refusal::TotalOverLimit)?;
     }
     Ok(())
 }

@@ -1,16 +1,17 @@
-use Rattle.std.proofs.Common.{Some, sym, ap, ◌∙◌}
-use native.Mathlib.Nat.{sub-zero}
-use Rattle.agreement.specs.Together.{repeated_at}
-use Rattle.agreement.proofs.Firsts.{first_here, first_past, first_none, passed, failed}
+use Rattle.std.proofs.Common.{◌+◌, length, get_or, take, Some, ap, ◌∙◌, rules}
+use Rattle.bits.specs.Faults.{year_fault}
+use Rattle.bits.specs.declared.refusal.Refusal.TheVariants.{IdentifierRepeated}
+use Rattle.agreement.specs.Together.{no_point, free}
+use Rattle.agreement.proofs.Firsts.{first_failing, none_failing}
 use Rattle.agreement.proofs.checks.check_identifiers.Goals as goal
 
-pub returns-then-not-is_free : goal.returns-then-not-is_free
-returns-then-not-is_free c =
-    ap Some c.year.ensures ∙ (sym (first_here _ _ (repeated_at c.args.points.now) _ c.loop-i-test.true (failed _ (simp sub-zero at c.if-not-is_free.ensures))) ∙ c.loop-i.invariant)
+pub returns-in-Some : goal.returns-in-Some
+returns-in-Some c =
+    let ps = c.args.points.now in
+    let i = c.in-Some.i in
+    ap Some c.year.ensures ∙ first_failing (length ps) i (λ j. free (get_or ps j no_point).identifier (take j ps)) (λ j. year_fault IdentifierRepeated (j + 1)) (search rules) (search rules) (λ j l. search rules)
 
-pub loop-i-preserved : goal.loop-i-preserved
-loop-i-preserved c =
-    sym (first_past _ _ (repeated_at c.args.points.now) c.loop-i-test.true (passed _ (simp sub-zero at c.if-not-is_free.ensures))) ∙ c.loop-i.invariant
-
-pub returns : goal.returns
-returns c = sym (first_none _ _ (repeated_at c.args.points.now) c.loop-i-test.false) ∙ c.loop-i.invariant
+pub returns-in-None : goal.returns-in-None
+returns-in-None c =
+    let ps = c.args.points.now in
+    none_failing (length ps) (λ j. free (get_or ps j no_point).identifier (take j ps)) (λ j. year_fault IdentifierRepeated (j + 1)) (λ j l. search rules)

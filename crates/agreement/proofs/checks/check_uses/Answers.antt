@@ -1,15 +1,16 @@
-use Rattle.std.proofs.Common.{Some, sym, ap, ◌∙◌}
-use Rattle.agreement.specs.Together.{misplaced_at}
-use Rattle.agreement.proofs.Firsts.{first_here, first_past, first_none, passed, failed}
+use Rattle.std.proofs.Common.{◌+◌, length, Some, ap, ◌∙◌, rules}
+use Rattle.bits.specs.Faults.{year_fault}
+use Rattle.bits.specs.declared.refusal.Refusal.TheVariants.{UseMisplaced}
+use Rattle.agreement.specs.Together.{placed_at}
+use Rattle.agreement.proofs.Firsts.{first_failing, none_failing}
 use Rattle.agreement.proofs.checks.check_uses.Goals as goal
 
-pub returns-then-not-is_placed : goal.returns-then-not-is_placed
-returns-then-not-is_placed c =
-    ap Some c.year.ensures ∙ (sym (first_here _ _ (misplaced_at c.args.points c.args.elements c.args.uses.now) _ c.loop-i-test.true (failed _ c.if-not-is_placed.ensures)) ∙ c.loop-i.invariant)
+pub returns-in-Some : goal.returns-in-Some
+returns-in-Some c =
+    let a = c.args in
+    ap Some c.year.ensures ∙ first_failing (length a.uses.now) c.in-Some.i (placed_at a.points a.elements a.uses.now) (λ j. year_fault UseMisplaced (a.points + a.elements + j + 1)) (search rules) (search rules) (λ j l. search rules)
 
-pub loop-i-preserved : goal.loop-i-preserved
-loop-i-preserved c =
-    sym (first_past _ _ (misplaced_at c.args.points c.args.elements c.args.uses.now) c.loop-i-test.true (passed _ c.if-not-is_placed.ensures)) ∙ c.loop-i.invariant
-
-pub returns : goal.returns
-returns c = sym (first_none _ _ (misplaced_at c.args.points c.args.elements c.args.uses.now) c.loop-i-test.false) ∙ c.loop-i.invariant
+pub returns-in-None : goal.returns-in-None
+returns-in-None c =
+    let a = c.args in
+    none_failing (length a.uses.now) (placed_at a.points a.elements a.uses.now) (λ j. year_fault UseMisplaced (a.points + a.elements + j + 1)) (λ j l. search rules)

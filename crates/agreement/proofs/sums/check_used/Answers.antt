@@ -1,23 +1,21 @@
-use Rattle.std.proofs.Common.{refl, arith}
-use Rattle.std.proofs.lemmas.Result.{err_from_is_err_and}
-use Rattle.agreement.proofs.Uses.{used_none, used_more, used_all, used_over, not_over}
+use Rattle.std.proofs.Common.{◌+◌, ◌<◌, get_or, arith, rules}
+use Rattle.std.proofs.lemmas.Bool.Decides.{nat_tests}
+use Rattle.agreement.specs.Together.{no_use}
+use Rattle.agreement.proofs.Uses.{used_none, used_all, used_over}
 use Rattle.agreement.proofs.sums.check_used.Goals as goal
 
 pub loop-network_use-init : goal.loop-network_use-init
 loop-network_use-init c = used_none c.args.uses.now
 
-pub returns-in_err-check_within : goal.returns-in_err-check_within
-returns-in_err-check_within c =
-    let p = err_from_is_err_and c.from_residual.result c.from_residual.ensures.1 in
-    let i = c.loop-network_use.network_use-index in
-    let named = c.requires.named i c.loop-network_use-test.true in
-    rw (p.1, p.2) (used_over c.args.uses.now i c.loop-network_use.used c.loop-network_use.invariant c.args.elements _ c.requires.few c.loop-network_use-test.true named c.in_err-check_within.ensures)
-
-pub loop-network_use-preserved : goal.loop-network_use-preserved
-loop-network_use-preserved c =
-    let i = c.loop-network_use.network_use-index in
-    let named = c.requires.named i c.loop-network_use-test.true in
-    used_more c.args.uses.now i c.loop-network_use.used c.loop-network_use.invariant c.loop-network_use-test.true _ (omega arith) refl (not_over _ 10000000 c.in_ok-check_within.ensures)
+pub returns-in_err-check_total : goal.returns-in_err-check_total
+returns-in_err-check_total c =
+    let l = c.loop-network_use in
+    let u = get_or c.args.uses.now l.network_use-index no_use in
+    let over : 10000000 < get_or l.used u.element 0 + u.demand = grind (arith, nat_tests, c.in_err-check_total.ensures) in
+    let whole = used_over c.args.uses.now l.network_use-index l.used l.invariant c.args.elements c.requires.few c.loop-network_use-test.true (c.requires.named l.network_use-index c.loop-network_use-test.true) over in
+    search rules
 
 pub returns : goal.returns
-returns c = used_all c.args.uses.now c.loop-network_use.network_use-index c.loop-network_use.used c.loop-network_use.invariant c.args.elements c.requires.few c.loop-network_use-test.false
+returns c =
+    let l = c.loop-network_use in
+    used_all c.args.uses.now l.network_use-index l.used l.invariant c.args.elements c.requires.few c.loop-network_use-test.false

@@ -1,14 +1,9 @@
-use Rattle.std.proofs.Common.{arith}
+use Rattle.std.proofs.Common.{◌≡◌, sum_by, min, arith, rules}
 use Rattle.records.specs.declared.element.Element.{Element}
-use Rattle.agreement.proofs.Summing.{summed_more, summed_all}
+use Rattle.agreement.proofs.Summing.{small_total}
 use Rattle.agreement.proofs.sums.network_cost_of.Goals as goal
 
-pub loop-element-preserved : goal.loop-element-preserved
-loop-element-preserved c = summed_more (λ (e : Element). e.cost) c.args.elements.now c.loop-element.element-index c.loop-element.total c.loop-element.invariant (record { cost = 0; rating = 0; peak = 0 }) c.loop-element-test.true (omega arith)
-
-pub returns : goal.returns
-returns c =
-    record {
-      value = summed_all (λ (e : Element). e.cost) c.args.elements.now c.loop-element.element-index c.loop-element.total c.loop-element.invariant c.loop-element-test.false;
-      small = omega (arith, c.loop-element.invariant.1);
-    }
+pub returns-clause-small : goal.returns-clause-small
+returns-clause-small c =
+    let e : c.sum.result ≡ sum_by (λ (x : Element). min x.cost 4294967295) c.args.elements.now = search rules in
+    omega (arith, e, small_total (λ (x : Element). x.cost) c.args.elements.now)
