@@ -1,6 +1,5 @@
 -- The first fault at a run of places, step by step. Assumes nothing.
-use Rattle.std.proofs.Common.{◌≡◌, ℕ, zero, suc, ◌+◌, ◌<◌, Bool, true, false, ◌⊎◌, Some, None, Option, sym, refl, ap, ◌∙◌, ⊎_elim, add-zero, zero-add, arith}
-use Rattle.bits.specs.Laid.{◌or_else◌}
+use Rattle.std.proofs.Common.{◌≡◌, ℕ, zero, suc, ◌+◌, ◌<◌, Bool, true, false, ◌⊎◌, Some, None, Option, sym, refl, ap, ◌∙◌, zero-add, arith}
 use Rattle.bits.specs.declared.fault.Fault.{Fault}
 use Rattle.agreement.specs.Together.{first_fault_among, unless}
 
@@ -11,17 +10,14 @@ first_at zero i k fault_at x l e before = absurd (omega arith)
 first_at (suc n) i zero fault_at x l e before = grind arith
 first_at (suc n) i (suc k) fault_at x l e before =
     let s : i + suc k ≡ suc i + k = omega arith in
-    let rest = first_at n (suc i) k fault_at x (omega arith) (rw s at e) (λ j m. let t : suc i + j ≡ i + suc j = omega arith in rw t (before (suc j) (omega arith))) in
-    grind (arith, before 0 (omega arith))
+    grind (arith, before 0 (omega arith), first_at n (suc i) k fault_at x (omega arith) (rw s at e) (λ j m. let t : suc i + j ≡ i + suc j = omega arith in rw t (before (suc j) (omega arith))))
 
 -- no place has a fault
 none_all : (n i : ℕ) (fault_at : ℕ → Option Fault) → ((k : ℕ) → k < n → fault_at (i + k) ≡ None) → first_fault_among n i fault_at ≡ None
 unfolding first_fault_among
 none_all zero i fault_at h = refl
 none_all (suc n) i fault_at h =
-    let a : fault_at i ≡ None = sym (ap fault_at (add-zero i)) ∙ h 0 (omega arith) in
-    let b = none_all n (suc i) fault_at (λ k l. let e : suc i + k ≡ i + suc k = omega arith in ap fault_at e ∙ h (suc k) (omega arith)) in
-    ap (λ (o : Option Fault). o or_else first_fault_among n (suc i) fault_at) a ∙ b
+    grind (arith, h 0 (omega arith), none_all n (suc i) fault_at (λ k l. let e : suc i + k ≡ i + suc k = omega arith in rw e (h (suc k) (omega arith))))
 
 pub none_each : (n : ℕ) (fault_at : ℕ → Option Fault) → ((k : ℕ) → k < n → fault_at k ≡ None) → first_fault_among n 0 fault_at ≡ None
 none_each n fault_at h = none_all n 0 fault_at (λ k l. ap fault_at (zero-add k) ∙ h k l)
@@ -39,10 +35,7 @@ none_failing n test fault h = sym (none_each n (λ i. unless (test i) (fault i))
 pub first_some : (n i k : ℕ) (fault_at : ℕ → Option Fault) (x : Fault) → ((j : ℕ) → (fault_at j ≡ None) ⊎ (fault_at j ≡ Some x)) → k < n → fault_at (i + k) ≡ Some x → first_fault_among n i fault_at ≡ Some x
 unfolding first_fault_among
 first_some zero i k fault_at x each l e = absurd (omega arith)
-first_some (suc n) i zero fault_at x each l e =
-    let a : fault_at i ≡ Some x = sym (ap fault_at (add-zero i)) ∙ e in
-    ap (λ (o : Option Fault). o or_else first_fault_among n (suc i) fault_at) a
+first_some (suc n) i zero fault_at x each l e = grind arith
 first_some (suc n) i (suc k) fault_at x each l e =
     let s : i + suc k ≡ suc i + k = omega arith in
-    let rest = first_some n (suc i) k fault_at x each (omega arith) (sym (ap fault_at s) ∙ e) in
-    ⊎_elim (λ a. ap (λ (o : Option Fault). o or_else first_fault_among n (suc i) fault_at) a ∙ rest) (λ a. ap (λ (o : Option Fault). o or_else first_fault_among n (suc i) fault_at) a) (each i)
+    grind (arith, each i, first_some n (suc i) k fault_at x each (omega arith) (rw s at e))

@@ -1,5 +1,5 @@
 -- Records without a fault together keep the limits. Assumes nothing.
-use Rattle.std.proofs.Common.{◌≡◌, ℕ, zero, suc, ◌+◌, ◌-◌, ◌<◌, ◌≤◌, Bool, true, not, eqb, ltb, List, length, get_or, take, Some, None, Option, refl, ap, ◌∙◌, add-zero, zero-add, arith}
+use Rattle.std.proofs.Common.{◌≡◌, ℕ, zero, suc, ◌+◌, ◌-◌, ◌<◌, ◌≤◌, Bool, true, not, eqb, List, length, get_or, take, Some, None, Option, refl, ap, ◌∙◌, add-zero, zero-add, arith}
 use Rattle.std.proofs.lemmas.List.{get_or-take, length-take-le}
 use Rattle.std.proofs.lemmas.List.Sums.{AllPass-from_list_all}
 use Rattle.std.proofs.lemmas.Bool.Decides.{nat_tests}
@@ -10,7 +10,7 @@ use Rattle.records.specs.declared.point.Point.{Point}
 use Rattle.agreement.specs.Agreement.{cost_of, together_fault}
 use Rattle.agreement.specs.Data.{YearData}
 use Rattle.agreement.specs.Limits.{Distinct, Named, Rising, Within, UsedWithin, Priced}
-use Rattle.agreement.specs.Together.{first_fault_among, free, no_point, no_use, unless, rank, repeated_at, repeated_fault, placed_at, misplaced_at, misplaced_fault, over_fault, overused_fault, zero_fault}
+use Rattle.agreement.specs.Together.{first_fault_among, free, no_point, no_use, unless, repeated_at, repeated_fault, placed_at, misplaced_at, misplaced_fault, over_fault, overused_fault, zero_fault}
 use Rattle.agreement.specs.Totals.{total_demand, total_energy, total_use}
 
 pub or_none : (f g : Option Fault) → None ≡ (f or_else g) → (None ≡ f) × (None ≡ g)
@@ -51,9 +51,7 @@ pub rising : (points elements : ℕ) (us : List NetworkUse) → None ≡ misplac
 rising points elements us h k l =
     let p = placed points elements us h (k + 1) l in
     let s : k + 1 - 1 ≡ k = omega arith in
-    let r : ltb (rank (get_or us (k + 1 - 1) no_use)) (rank (get_or us (k + 1) no_use)) ≡ true = grind (arith, nat_tests) in
-    let t : ltb (rank (get_or us k no_use)) (rank (get_or us (k + 1) no_use)) ≡ true = rw s at r in
-    grind (arith, nat_tests)
+    grind (arith, nat_tests, rw s at p)
 
 under : (total limit : ℕ) → None ≡ over_fault total limit → total ≤ limit
 under total limit h = grind (arith, nat_tests)
