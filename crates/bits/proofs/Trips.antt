@@ -1,11 +1,11 @@
 -- The round trips of any kind of record that obeys a few laws. Assumes nothing.
-use Rattle.std.proofs.Common.{◌≡◌, ℕ, ◌*◌, List, [], ◌∷◌, length, IfOk, None, Ok, Err, Option, Result, sym, refl, ap, ◌∙◌, subst, arith}
+use Rattle.std.proofs.Common.{◌≡◌, ℕ, List, [], ◌∷◌, length, IfOk, None, Ok, Err, Option, Result, sym, refl, ap, ◌∙◌, subst, arith}
 use Rattle.std.specs.Result.{result_err}
 use Rattle.bits.specs.Bits.{bits, bytes_of}
 use Rattle.bits.specs.Forms.{Form, values_of, record_of, record_fault, record_bytes, record_refusal, InRange}
 use Rattle.bits.specs.Laid.{row_refusal, room_fault, ◌or_else◌}
 use Rattle.bits.specs.Rows.{Alike, Stands, Lawful, Kept}
-use Rattle.bits.specs.Layout.{values_in, packed, span, first_bad, AllKeep, Narrow}
+use Rattle.bits.specs.Layout.{packed, first_bad, AllKeep}
 use Rattle.bits.specs.declared.fault.Fault.{Fault}
 use Rattle.bits.specs.declared.field.Field.{Field}
 use Rattle.bits.proofs.Digits.{Bytes, length-bytes_of, bytes_bytes_of}

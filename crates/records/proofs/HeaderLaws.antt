@@ -1,18 +1,13 @@
 -- The header obeys the laws of records. Assumes nothing.
-use Rattle.std.proofs.Common.{◌≡◌, ℕ, ◌^◌, ◌<◌, ◌≤◌, ltb, List, ◌++◌, length, get_or, take, drop, nat_abs, Some, None, Ok, Err, Result, sym, refl, ap, ◌∙◌, subst, arith, lit<, lit≤}
+use Rattle.std.proofs.Common.{◌≡◌, ℕ, ◌<◌, ◌≤◌, ltb, List, ◌++◌, length, take, drop, Some, None, Ok, Err, Result, sym, ap, ◌∙◌, arith}
 use Rattle.std.proofs.lemmas.List.{length-append, take_at, drop_at, take_all, take-append-drop}
 use Rattle.std.proofs.lemmas.Bool.{cond-true, cond-false, lt-ltb, le-ltb}
 use Rattle.bits.specs.Faults.{short_fault}
 use Rattle.bits.specs.Forms.{record_of, record_fault}
-use Rattle.bits.specs.Layout.{values_in, AllKeep}
 use Rattle.bits.specs.declared.fault.Fault.{Fault}
-use Rattle.bits.specs.declared.field.Field.{Field}
-use Rattle.bits.proofs.Laws.{keep_at}
-use Rattle.bits.proofs.Trips.{packed_same, length_record, write_stands}
-use Rattle.bits.proofs.Twos.{untwos-twos, twos-untwos, untwos_near, twos_near, extended_lt}
-use Rattle.records.specs.Headers.{header_row, header_fields, header_values, header_named, header_form, header_of, header_fault, header_bytes, HeaderIn, ResiduesNear}
+use Rattle.bits.proofs.Trips.{length_record}
+use Rattle.records.specs.Headers.{header_form, header_of, header_fault, header_bytes, HeaderIn}
 use Rattle.records.specs.declared.header.Header.{Header}
-use Rattle.records.specs.Laws.{header_lawful}
 
 pub length_header : (h : Header) → length (header_bytes h) ≡ 27
 unfolding header_form

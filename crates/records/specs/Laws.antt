@@ -1,5 +1,5 @@
 -- The kinds of records obey the laws of rows. Assumes nothing.
-use Rattle.std.proofs.Common.{◌≡◌, ℕ, zero, suc, ◌^◌, ◌<◌, ◌≤◌, List, [], ◌∷◌, length, get_or, refl, ap, ◌∙◌, arith, lit<, lit≤}
+use Rattle.std.proofs.Common.{◌≡◌, ℕ, zero, suc, List, [], ◌∷◌, length, get_or, refl, ap, ◌∙◌, arith, lit<, lit≤}
 use Rattle.bits.specs.Layout.{values_in, AllKeep}
 use Rattle.bits.specs.Rows.{Lawful, Sized}
 use Rattle.bits.proofs.Laws.{keep_at}

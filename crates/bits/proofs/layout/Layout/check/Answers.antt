@@ -1,10 +1,7 @@
-use Rattle.std.proofs.Common.{◌+◌, Some, sym, refl, ap, ◌∙◌, arith}
+use Rattle.std.proofs.Common.{◌+◌, Some, sym, ap, ◌∙◌, arith}
 use Rattle.bits.proofs.Turns.{narrow_all, narrow_at, bad_more, bad_here, bad_none}
 use Rattle.bits.proofs.Laws.{all_kept}
 use Rattle.bits.proofs.layout.Layout.check.Goals as goal
-
-pub loop-i-init : goal.loop-i-init
-loop-i-init g c = refl
 
 pub keeps-requires : goal.keeps-requires
 keeps-requires g c =

@@ -1,16 +1,8 @@
-use Rattle.std.proofs.Common.{ℕ, ◌*◌, List, sym, refl, ap, ◌∙◌, subst, arith, rules}
+use Rattle.std.proofs.Common.{◌*◌, ap, ◌∙◌, arith, rules}
 use Rattle.bits.specs.Bits.{bytes_of}
 use Rattle.bits.specs.Written.{written}
-use Rattle.bits.proofs.Turns.{narrow_all, Wrote, blank, narrow_at, wrote_more, wrote_all, read_width}
+use Rattle.bits.proofs.Turns.{narrow_all, blank, narrow_at, wrote_more, wrote_all, read_width}
 use Rattle.bits.proofs.layout.Layout.encode.Goals as goal
-
-pub new-bits-requires : goal.new-bits-requires
-new-bits-requires g c = search rules
-
-pub loop-i-init : goal.loop-i-init
-loop-i-init g c =
-    subst (λ (x : List ℕ). Wrote c.args.self.now.fields c.args.values.now 0 (8 * g.row.M) x) (sym c.new-bits.ensures)
-    (record { bits = refl; room = omega arith })
 
 pub put-requires : goal.put-requires
 put-requires g c =
@@ -21,11 +13,6 @@ put-requires g c =
 pub loop-i-preserved : goal.loop-i-preserved
 loop-i-preserved g c =
     wrote_more c.args.self.now.fields c.args.values.now c.loop-i.i (8 * g.row.M) (written c.loop-i.bits) (written c.put.new.self) _ c.loop-i.invariant (omega arith) (omega arith) c.put.ensures
-
-pub finish-requires : goal.finish-requires
-finish-requires g c =
-    let w = wrote_all c.args.self.now.fields c.args.values.now c.loop-i.i (8 * g.row.M) (written c.loop-i.bits) c.loop-i.invariant (omega arith) in
-    (search rules, (search rules, w.1))
 
 pub returns : goal.returns
 returns g c =

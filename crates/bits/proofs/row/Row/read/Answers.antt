@@ -1,12 +1,9 @@
-use Rattle.std.proofs.Common.{◌≡◌, ℕ, List, length, get_or, Ok, Err, sym, ap, ◌∙◌, subst, w8, Fits, arith, rules}
+use Rattle.std.proofs.Common.{◌≡◌, Ok, Err, sym, ◌∙◌, subst, arith, rules}
 use Rattle.std.proofs.lemmas.Result.{err_from_is_err_and}
 use Rattle.bits.specs.Bits.{bits}
 use Rattle.bits.specs.Forms.{InRange, record_bytes}
 use Rattle.bits.proofs.Trips.{kept_by, read_fails, read_succeeds, read_finds}
 use Rattle.bits.proofs.row.Row.read.Goals as goal
-
-pub layout-requires : goal.layout-requires
-layout-requires g c = let z = g.met.Self.Row.sized in search rules
 
 pub named-requires : goal.named-requires
 named-requires g c = let k = kept_by g.Self.Row.form _ _ c.layout-2.ensures c.in_ok-check.ensures.kept in let z = g.met.Self.Row.sized in search rules

@@ -1,4 +1,4 @@
-use Rattle.std.proofs.Common.{◌≤◌, refl, arith, rules}
+use Rattle.std.proofs.Common.{◌≤◌, arith, rules}
 use Rattle.bits.specs.Written.{written}
 use Rattle.bits.proofs.Pieces.{put_more, put_all, put_room, piece_lt}
 use Rattle.bits.proofs.writer.Writer.put.Goals as goal
@@ -8,9 +8,6 @@ loop-left-preserved g c =
     let l : c.min-count.result ≤ c.loop-left.left = omega arith in
     let m : c.min-count.result ≤ 8 = omega arith in
     put_more (written c.args.self.now) c.args.width c.args.value c.loop-left.left (written c.loop-left.self) c.min-count.result (written c.piece.new.self) c.loop-left.invariant l m c.piece.ensures
-
-pub loop-left-init : goal.loop-left-init
-loop-left-init g c = record { bits = refl; bound = omega arith }
 
 pub piece-requires : goal.piece-requires
 piece-requires g c =
