@@ -1,5 +1,5 @@
 // Records of a year held against each other: the faults 4 and 5.
-ghost use Rattle.std.specs.Prelude.{◌≡◌, ◌<◌, ◌≤◌, length};
+ghost use Rattle.std.specs.Prelude.{◌≡◌, ◌<◌, ◌≤◌, length, nat_lt};
 ghost use Rattle.std.specs.Result.{result_err};
 ghost use Rattle.agreement.specs.Together.{free, rank, placed_at, repeated_fault, misplaced_fault};
 
@@ -30,10 +30,10 @@ pub(crate) fn check_identifiers(points: &[Point]) -> Result<(), Fault>
 }
 
 // The order of uses: by element, then by point.
-fn rank_of(network_use: NetworkUse) -> u32
-    ensures { result ≡ rank network_use }
+fn rises(before: NetworkUse, after: NetworkUse) -> bool
+    ensures { result ≡ nat_lt (rank before) (rank after) }
 {
-    u32::from(network_use.element) * 65_536 + u32::from(network_use.point)
+    (before.element, before.point) < (after.element, after.point)
 }
 
 // Whether the use at a place names an element and a point that are there, and rises above the one before it.
@@ -44,7 +44,7 @@ fn is_placed(uses: &[NetworkUse], place: usize, points: usize, elements: usize) 
     let network_use = uses[place];
     usize::from(network_use.element) < elements
         && usize::from(network_use.point) < points
-        && (place == 0 || rank_of(uses[place - 1]) < rank_of(network_use))
+        && (place == 0 || rises(uses[place - 1], network_use))
 }
 
 pub(crate) fn check_uses(uses: &[NetworkUse], points: usize, elements: usize) -> Result<(), Fault>
