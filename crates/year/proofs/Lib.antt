@@ -1,4 +1,3 @@
-pub mod Filling
 pub mod Limits
 pub mod Reading
 pub mod Rounds

@@ -1,15 +1,15 @@
 -- What the records of a file say, and what they keep where none has a fault. Assumes nothing.
-use Rattle.std.proofs.Common.{◌≡◌, ℕ, ◌+◌, ◌*◌, ◌<◌, ◌≤◌, List, [], ◌∷◌, map, length, drop, nat_abs, None, sym, refl, ap, ◌∙◌, subst, arith}
+use Rattle.std.proofs.Common.{◌≡◌, ℕ, ◌+◌, ◌*◌, ◌≤◌, List, [], ◌∷◌, map, drop, nat_abs, None, sym, refl, ap, ◌∙◌, subst, arith}
 use Rattle.std.specs.List.{AllByRecursion, flat_map}
 use Rattle.std.specs.Simd.{first_chunks}
 use Rattle.std.proofs.ByRecursion.{All-get_or}
 use Rattle.std.proofs.lemmas.List.{length-map}
 use Rattle.agreement.specs.Agreement.{together_fault}
 use Rattle.agreement.specs.Data.{YearData, year_data, Few}
-use Rattle.agreement.specs.Limits.{Distinct, Named, Rising, Within, UsedWithin, Priced}
 use Rattle.agreement.specs.Together.{no_point, no_element}
 use Rattle.agreement.proofs.Keeping.{or_none, kept}
 use Rattle.bits.specs.Bits.{bits}
+use Rattle.bits.specs.Laid.{◌or_else◌}
 use Rattle.bits.specs.Forms.{record_of, record_fault}
 use Rattle.bits.specs.Layout.{values_in}
 use Rattle.bits.proofs.Laws.{all_kept}
@@ -21,7 +21,8 @@ use Rattle.records.specs.declared.element.Element.{Element}
 use Rattle.records.specs.declared.header.Header.{Header}
 use Rattle.records.specs.declared.point.Point.{Point}
 use Rattle.year.specs.Contents.{gathered}
-use Rattle.year.specs.Ranges.{Counted, Figures, Dated, Identified, Rated, Blank}
+use Rattle.year.specs.Ranges.{Counted}
+use Rattle.year.specs.YearBytes.{Sound}
 use Rattle.year.specs.YearFile.{year_after, year_of, first_fault}
 use Rattle.yearfile.proofs.Telling.{length-chunks}
 use Rattle.yearfile.specs.File.{length_fault, told_after}
@@ -86,7 +87,6 @@ element_kept n bs h =
 
 -- every record that came without a fault keeps its ranges
 all_keep : (ts : List Told) → None ≡ first_told_fault ts → AllByRecursion IdentifierIn (flat_map point_in ts) × AllByRecursion RatingIn (flat_map element_in ts)
-unfolding first_told_fault
 all_keep [] h = (tt, tt)
 all_keep (a_point bs n ∷ ts) h =
     let o = or_none (point_fault (n + 1) bs) _ h in
@@ -98,75 +98,59 @@ all_keep (an_element bs n ∷ ts) h =
     (r.0, (element_kept (n + 1) bs o.0, r.1))
 all_keep (a_use bs n ∷ ts) h = all_keep ts (or_none (use_fault (n + 1) bs) _ h).1
 
--- what the struct of a checked year asks, in its order
-pub record Limits (d : YearData) : Type 0 where
-  pub few : Few d
-  pub counted : Counted d
-  pub figures : Figures d
-  pub dated : Dated d
-  pub identified : Identified d
-  pub rated : Rated d
-  pub distinct : Distinct d.points
-  pub named : Named d
-  pub rising : Rising d.uses
-  pub within : Within d
-  pub used : UsedWithin d
-  pub priced : Priced d
-  pub blank : Blank d
+-- a header that keeps its ranges announces few enough records
+few : (h : Header) (rest : List ℕ) → HeaderIn h → Few (year_after h rest)
+few h rest in_range =
+    let c = counts h rest in
+    let r = ranges h in_range in
+    (omega (arith, c.0, r.points.1), omega (arith, c.1, r.elements), omega (arith, c.2, r.uses))
 
-module _ (h : Header) (rest : List ℕ) (in_range : HeaderIn h) where
-  pub few : Few (year_after h rest)
-  few =
-      let c = counts h rest in
-      let r = ranges h in_range in
-      (omega (arith, c.0, r.points.1), omega (arith, c.1, r.elements), omega (arith, c.2, r.uses))
-
-  pub limits : None ≡ first_told_fault (told_after h rest) → None ≡ together_fault (year_after h rest) → Limits (year_after h rest)
-  limits fine agree =
-      let c = counts h rest in
-      let r = ranges h in_range in
-      let k = kept (year_after h rest) agree in
-      let told : None ≡ first_told_fault (told_after h rest) = fine in
-      let a = all_keep (told_after h rest) told in
-      let P : YearData → Type 0 = λ d. AllByRecursion IdentifierIn d.points × AllByRecursion RatingIn d.elements in
-      let b : P (year_after h rest) = subst P (gathers h rest) a in
-      let some : 0 < length (year_after h rest).points = omega (arith, c.0, r.points.0) in
-      record {
-        few = few;
-        counted = c;
-        figures = (r.revenue, r.common, r.locational, r.other);
-        dated = λ _. r.year;
-        identified = λ i l. All-get_or IdentifierIn (year_after h rest).points i no_point l b.0;
-        rated = λ i l. All-get_or RatingIn (year_after h rest).elements i no_element l b.1;
-        distinct = k.distinct;
-        named = k.named;
-        rising = k.rising;
-        within = k.within;
-        used = k.used;
-        priced = k.priced;
-        blank = λ z. absurd (omega arith);
-      }
-
--- the parts of a file as the code has them: its header, the rest, and the records told of it
-pub record Taken (file : List ℕ) (h : Header) (rest : List ℕ) (ts : List Told) : Type 0 where
+-- a file whose header and length have no fault, as it is taken apart
+pub record Taken (file : List ℕ) (h : Header) (rest : List ℕ) : Type 0 where
   pub header : h ≡ header_of file
   pub after : rest ≡ drop 27 file
-  pub told : ts ≡ told_after h rest
+  pub in_range : HeaderIn h
+  pub fine : None ≡ header_fault file
+  pub whole : None ≡ length_fault h rest
 
-module _ (file : List ℕ) (h : Header) (rest : List ℕ) (ts : List Told) (so : Taken file h rest ts) where
-  pub filled_after : (d : YearData) → d ≡ gathered h ts → d ≡ year_after h rest
-  filled_after d e = e ∙ (ap (gathered h) so.told ∙ gathers h rest)
+module _ {file : List ℕ} {h : Header} {rest : List ℕ} (so : Taken file h rest) where
+  same : year_after h rest ≡ year_of file
+  same = rw (so.header, so.after)
 
-  pub filled_of : (d : YearData) → d ≡ gathered h ts → d ≡ year_of file
-  filled_of d e = filled_after d e ∙ (ap (λ (x : Header). year_after x rest) so.header ∙ ap (year_after (header_of file)) so.after)
+  pub few_file : Few (year_of file)
+  few_file = subst (λ (d : YearData). Few d) same (few h rest so.in_range)
 
-  -- where nothing was wrong up to the records themselves, what is wrong is wrong with them together
-  pub last_fault : None ≡ header_fault file → None ≡ length_fault h rest → None ≡ first_told_fault ts → together_fault (year_of file) ≡ first_fault file
-  last_fault a b c =
-      let d : None ≡ length_fault (header_of file) (drop 27 file) = b ∙ (ap (λ (x : Header). length_fault x rest) so.header ∙ ap (length_fault (header_of file)) so.after) in
-      let e : None ≡ first_told_fault (told_after (header_of file) (drop 27 file)) =
-      c ∙ ap first_told_fault (so.told ∙ (ap (λ (x : Header). told_after x rest) so.header ∙ ap (told_after (header_of file)) so.after)) in
-      rw (← a, ← d, ← e)
+  -- the records that it announces are all that is in the year, and what is wrong is wrong with them
+  module _ (ts : List Told) (e : ts ≡ told_after h rest) where
+    pub year_left : gathered h ts ≡ year_of file
+    year_left = ap (gathered h) e ∙ (gathers h rest ∙ same)
 
-pub few_told : (h : Header) (rest : List ℕ) (ts : List Told) → HeaderIn h → ts ≡ told_after h rest → Few (gathered h ts)
-few_told h rest ts in_range e = subst (λ (d : YearData). Few d) (sym (ap (gathered h) e ∙ gathers h rest)) (few h rest in_range)
+    pub fault_left : (first_told_fault ts or_else together_fault (year_of file)) ≡ first_fault file
+    fault_left =
+        let w : None ≡ length_fault (header_of file) (drop 27 file) = rw (← so.header, ← so.after) so.whole in
+        rw (e, so.header, so.after, ← so.fine, ← w)
+
+-- a year that came out of a file without a fault is sound
+pub sound_after : (h : Header) (rest : List ℕ) → HeaderIn h → None ≡ first_told_fault (told_after h rest) → None ≡ together_fault (year_after h rest) → Sound (year_after h rest)
+sound_after h rest in_range fine agree =
+    let c = counts h rest in
+    let r = ranges h in_range in
+    let k = kept (year_after h rest) agree in
+    let a = all_keep (told_after h rest) fine in
+    let P : YearData → Type 0 = λ d. AllByRecursion IdentifierIn d.points × AllByRecursion RatingIn d.elements in
+    let b : P (year_after h rest) = subst P (gathers h rest) a in
+    record {
+      some = omega (arith, c.0, r.points.0);
+      few = few h rest in_range;
+      counted = c;
+      figures = (r.revenue, r.common, r.locational, r.other);
+      dated = λ _. r.year;
+      identified = λ i l. All-get_or IdentifierIn (year_after h rest).points i no_point l b.0;
+      rated = λ i l. All-get_or RatingIn (year_after h rest).elements i no_element l b.1;
+      distinct = k.distinct;
+      named = k.named;
+      rising = k.rising;
+      within = k.within;
+      used = k.used;
+      priced = k.priced;
+    }

@@ -1,12 +1,11 @@
 -- A year and its file determine each other. Assumes nothing.
-use Rattle.std.proofs.Common.{◌≡◌, ℕ, suc, ◌+◌, ◌-◌, ◌*◌, ◌%◌, ◌<◌, ◌≤◌, false, ltb, List, [], ◌∷◌, ◌++◌, map, length, get_or, take, drop, ℤ, pos, negsuc, nat_abs, IfOk, Some, None, Ok, Err, Option, Result, sym, refl, ap, ◌∙◌, inl, inr, append-nil, arith, length-append, MatchResult}
+use Rattle.std.proofs.Common.{◌≡◌, ℕ, suc, ◌+◌, ◌-◌, ◌*◌, ◌%◌, ◌<◌, ◌≤◌, false, ltb, List, [], ◌∷◌, ◌++◌, map, length, get_or, take, drop, ℤ, pos, negsuc, nat_abs, Some, None, Option, sym, refl, ap, ◌∙◌, inl, inr, append-nil, arith, length-append}
 use Rattle.std.specs.List.{AllByRecursion, flat_map}
 use Rattle.std.specs.Simd.{first_chunks}
 use Rattle.std.proofs.ByRecursion.{All-from_get_or}
 use Rattle.std.proofs.lemmas.List.{take-append-drop, length-drop, length-take-le, drop_all, drop-drop, take_at, drop_at}
 use Rattle.std.proofs.lemmas.List.Sums.{get_or-le-sum_by}
 use Rattle.std.proofs.lemmas.Bool.Decides.{nat_tests}
-use Rattle.std.specs.Result.{result_err}
 use Rattle.agreement.specs.Agreement.{together_fault}
 use Rattle.agreement.specs.Data.{YearData}
 use Rattle.agreement.specs.Together.{no_point, no_element, no_use}
@@ -28,7 +27,7 @@ use Rattle.records.specs.declared.header.Header.{Header}
 use Rattle.records.specs.declared.network_use.NetworkUse.{NetworkUse}
 use Rattle.records.specs.declared.point.Point.{Point}
 use Rattle.records.specs.Laws.{element_lawful, header_lawful, point_lawful, use_lawful}
-use Rattle.year.proofs.Reading.{counts, ranges, limits}
+use Rattle.year.proofs.Reading.{sound_after}
 use Rattle.year.specs.YearBytes.{year_bytes, Sound}
 use Rattle.year.specs.YearFile.{year_after, year_of, first_fault}
 use Rattle.yearfile.specs.File.{announced, length_fault, told_after}
@@ -178,7 +177,6 @@ module _ (d : YearData) (so : Sound d) where
   year_back = rw (point_parts, element_parts, use_parts, read_back point_form point_lawful ps (points_ranged d so), read_back element_form element_lawful es (elements_ranged d so), read_back use_form use_lawful us (uses_ranged d so))
 
   told_back : first_told_fault (told_after h (body d)) ≡ None
-  unfolding first_told_fault
   told_back =
       rw (point_parts, element_parts, use_parts, ← append-nil {A = ℕ → Told} (map (λ b n. a_use b n) (map use_bytes us)))
       (none_told a_point _ (map point_bytes ps) (none_back point_form point_lawful ps (points_ranged d so))
@@ -317,32 +315,10 @@ module _ (file : List ℕ) (bytes : Bytes file) (fine : None ≡ first_fault fil
 
   -- and that year is sound
   pub sound_file : Sound (year_of file)
-  sound_file =
-      let l = limits hd rest header_kept records_none together_none in
-      record {
-        some = omega (arith, (counts hd rest).0, (ranges hd header_kept).points.0);
-        few = l.few;
-        counted = l.counted;
-        figures = l.figures;
-        dated = l.dated;
-        identified = l.identified;
-        rated = l.rated;
-        distinct = l.distinct;
-        named = l.named;
-        rising = l.rising;
-        within = l.within;
-        used = l.used;
-        priced = l.priced;
-      }
+  sound_file = sound_after hd rest header_kept records_none together_none
 
--- what a read that answers so says of the file
-pub one_form : {T : Type 0} (file : List ℕ) → Bytes file → (r : Result T Fault) → result_err r ≡ first_fault file → IfOk r (λ _. Sound (year_of file) × (file ≡ year_bytes (year_of file)))
-one_form file b (Ok x) e = (sound_file file b e, sym (read_then_written file b e))
-one_form file b (Err f) e = tt
-
-pub all_found : {T : Type 0} (file : List ℕ) (r : Result T Fault) (after before : YearData) → result_err r ≡ first_fault file → MatchResult r (λ _. after ≡ year_of file) (λ _. after ≡ before)
-    → (d : YearData) → Sound d → file ≡ year_bytes d → MatchResult r (λ _. after ≡ d) (λ _. ⊥)
-all_found file (Ok x) after before e h d so b = h ∙ (ap year_of b ∙ (written_then_read d so).1)
-all_found file (Err f) after before e h d so b =
+-- what a sound year writes is not refused
+pub never_refused : (file : List ℕ) (f : Fault) → Some f ≡ first_fault file → (d : YearData) → Sound d → file ≡ year_bytes d → ⊥
+never_refused file f e d so b =
     let z : ◌≡◌ {A = Option Fault} (Some f) None = e ∙ (ap first_fault b ∙ sym (written_then_read d so).0) in
-    grind arith
+    cc

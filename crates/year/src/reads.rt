@@ -9,11 +9,8 @@ ghost use Rattle.year.specs.YearFile.{first_fault, year_of};
 use crate::lists::Lists;
 use crate::year::Year;
 use bits::fault::Fault;
-use records::header::Header;
 use std::alloc::{AllocError, Global};
 use std::mem;
-use yearfile::length::check_length;
-use yearfile::stream::Records;
 
 impl Year {
     // The empty year, with all the memory that it will ever want.
@@ -27,25 +24,15 @@ impl Year {
     }
 
     // Takes a file in, or says what is first wrong with it and stays as it was. What is taken in is just the files of
-    // sound years, each of which has one form. (The last two clauses follow from the first two, so the work stands in
-    // a function of its own.)
+    // sound years, each of which has one form. The draft takes the file in and is checked before it takes the place of
+    // what is held.
     pub fn read(&mut self, file: &[u8]) -> Result<(), Fault>
         ensures fault { result_err result ≡ first_fault file.now }
         ensures held { MatchResult result (λ _. contents self.new ≡ year_of file.now) (λ _. contents self.new ≡ contents self.old) }
         ensures form { OnOk result (Sound (year_of file.now) × (file.now ≡ year_bytes (year_of file.now))) }
         ensures found { (d : YearData) → Sound d → file.now ≡ year_bytes d → MatchResult result (λ _. contents self.new ≡ d) (λ _. ⊥) }
     {
-        self.take_in(file)
-    }
-
-    // The draft takes the file in and is checked before it takes the place of what is held.
-    fn take_in(&mut self, file: &[u8]) -> Result<(), Fault>
-        ensures fault { result_err result ≡ first_fault file.now }
-        ensures held { MatchResult result (λ _. contents self.new ≡ year_of file.now) (λ _. contents self.new ≡ contents self.old) }
-    {
-        let (header, rest) = Header::read(file)?;
-        check_length(&header, rest)?;
-        self.draft.fill(header, Records::new(&header, rest))?;
+        self.draft.fill(file)?;
         self.draft.check()?;
         mem::swap(&mut self.held, &mut self.draft);
         Ok(())

@@ -29,12 +29,10 @@ or_none (Some f) g h = (h, grind arith)
 -- parts without a fault, whatever their place
 module _ (kind : List ℕ → ℕ → Told) (ts : List (ℕ → Told)) where
   pub none_told : (ps : List (List ℕ)) → AllByRecursion (λ b. (k : ℕ) → told_fault (kind b k) ≡ None) ps → ((n : ℕ) → first_told_fault (numbered n ts) ≡ None) → (n : ℕ) → first_told_fault (numbered n (map kind ps ++ ts)) ≡ None
-  unfolding first_told_fault
   none_told [] h t n = t n
   none_told (p ∷ ps) h t n = rw (h.0 n) (none_told ps h.1 t (n + 1))
 
   pub told_none : (n : ℕ) (ps : List (List ℕ)) → None ≡ first_told_fault (numbered n (map kind ps ++ ts)) → AllByRecursion (λ b. (k : ℕ) × (None ≡ told_fault (kind b k))) ps × ((m : ℕ) × (None ≡ first_told_fault (numbered m ts)))
-  unfolding first_told_fault
   told_none n [] h = (tt, (n, h))
   told_none n (p ∷ ps) h =
       let o = or_none (told_fault (kind p n)) (first_told_fault (numbered (n + 1) (map kind ps ++ ts))) h in

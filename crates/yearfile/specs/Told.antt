@@ -36,7 +36,7 @@ told_fault (an_element bytes place) = element_fault (place + 1) bytes
 told_fault (a_use bytes place) = use_fault (place + 1) bytes
 
 -- the first fault of records in their order
-unfoldable pub first_told_fault : List Told → Option Fault
+abbrev pub first_told_fault : List Told → Option Fault
 first_told_fault [] = None
 first_told_fault (t ∷ ts) = told_fault t or_else first_told_fault ts
 
