@@ -7,7 +7,7 @@ use Rattle.std.proofs.lemmas.List.{take-append-drop, flat_map_more, take_more, t
 use Rattle.std.proofs.lemmas.List.Folds.{length-flat_map-take}
 use Rattle.std.proofs.lemmas.Bool.Decides.{nat_tests}
 use Rattle.bits.specs.Forms.{Form, record_bytes, record_refusal, InRange}
-use Rattle.bits.specs.Laid.{◌or_else◌, room_fault, over}
+use Rattle.bits.specs.Laid.{◌or_else◌, room_fault}
 use Rattle.bits.specs.declared.fault.Fault.{Fault}
 use Rattle.bits.proofs.Laws.{none_bad}
 use Rattle.bits.proofs.Trips.{length_record}
