@@ -3,10 +3,9 @@
 #![tactic(auto)]
 
 mod charged;
-mod columns;
 mod located;
 pub mod page;
+mod places;
 pub mod priced;
 mod revenues;
 mod rows;
-mod within;

@@ -5,10 +5,9 @@ ghost use Rattle.pricing.specs.Revenues.{results, entry_result, exit_result, l1_
 ghost use Rattle.pricing.specs.Signs.{not_below_zero, below_zero};
 ghost use Rattle.year.specs.Holds.{contents};
 
-use crate::within::shares_within;
 use agreement::sums::{network_cost_of, point_totals};
-use records::header::Header;
-use year::year::Year;
+use money::sharing::shares;
+use year::filled::FilledYear;
 
 #[derive(Clone, Copy)]
 pub(crate) struct Revenues {
@@ -18,20 +17,23 @@ pub(crate) struct Revenues {
     // What the year adds to the non-locational revenue.
     pub(crate) rest: i64,
     pub(crate) common: u64,
+    ghost shares: { (entry ≤ 100000000000) × (exit ≤ 100000000000) },
+    ghost revenues: { (locational ≤ 100000000000) × (common ≤ 100000000000) },
+    ghost small: { unsigned_abs rest ≤ 200000000000 },
 }
 
 // The amount, or zero where it is below zero.
 pub(crate) fn not_below_zero(cents: i64) -> u64
     ensures { result ≡ not_below_zero cents }
 {
-    if cents < 0 { 0 } else { cents as u64 }
+    u64::try_from(cents).unwrap_or(0)
 }
 
 // The amount where it is below zero, else zero.
 fn below_zero(cents: i64) -> i64
     ensures { result ≡ below_zero cents }
 {
-    if cents < 0 { cents } else { 0 }
+    cents.min(0)
 }
 
 // Half of the shared network's result, less the locational residue.
@@ -54,31 +56,32 @@ fn rest_of(other_half: u64, l1: i64, residue: i64) -> i64
 }
 
 // What M − C comes to for entry, exit, the shared network and common services.
-fn results(year: &Year, header: Header) -> [u64; 4]
-    requires { header ≡ (contents year.now).header }
-    ensures { result ≡ results (contents year.now) }
+#[tactic(auto, unfolding(crate::specs::Revenues::results))]
+fn results(year: &FilledYear) -> [u64; 4]
+    ensures { result ≡ results (contents year.now.year.now) }
 {
-    let totals = point_totals(year.points());
+    let header = year.header();
+    let totals = point_totals(year.year.points());
     let costs = [
         totals.entry_cost,
         totals.exit_cost,
-        network_cost_of(year.elements()),
-        header.common_cost as u64,
+        network_cost_of(year.year.elements()),
+        u64::from(header.common_cost),
     ];
-    shares_within(header.allowed_revenue - header.common_operating_cost, costs)
+    shares(header.allowed_revenue - header.common_operating_cost, costs).unwrap()
 }
 
 impl Revenues {
-    pub(crate) fn of(year: &Year, header: Header) -> Revenues
-        requires { header ≡ (contents year.now).header }
-        ensures entry { result.entry ≡ entry_result (contents year.now) }
-        ensures exit { result.exit ≡ exit_result (contents year.now) }
-        ensures locational { result.locational ≡ locational_revenue (contents year.now) }
-        ensures rest { result.rest ≡ rest (contents year.now) }
-        ensures common { result.common ≡ common_revenue (contents year.now) }
+    #[tactic(auto, using(crate::proofs::Results::figured), unfolding(crate::specs::Revenues::l1, crate::specs::Revenues::common_revenue))]
+    pub(crate) fn of(year: &FilledYear) -> Revenues
+        ensures entry { result.entry ≡ entry_result (contents year.now.year.now) }
+        ensures exit { result.exit ≡ exit_result (contents year.now.year.now) }
+        ensures locational { result.locational ≡ locational_revenue (contents year.now.year.now) }
+        ensures rest { result.rest ≡ rest (contents year.now.year.now) }
+        ensures common { result.common ≡ common_revenue (contents year.now.year.now) }
     {
-        let results = results(year, header);
-        let [entry, exit, network, common] = results;
+        let header = year.header();
+        let [entry, exit, network, common] = results(year);
         let l0 = network / 2;
         let l1 = l1_of(l0, header.locational_residue);
         Revenues {
@@ -92,9 +95,7 @@ impl Revenues {
 
     // What is left for the non-locational revenue, with the outstanding amount and after all locational charges.
     pub(crate) fn n1(&self, brought_in: i64, charges: u64) -> i64
-        requires rest { unsigned_abs self.now.rest ≤ 10000000000000 }
         requires outstanding { unsigned_abs brought_in ≤ 1000000000000 }
-        requires locational { self.now.locational ≤ 100000000000 }
         requires charges { charges ≤ 100000000000000 }
         ensures { result ≡ n1_of self.now.rest brought_in self.now.locational charges }
     {
