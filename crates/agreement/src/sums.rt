@@ -1,5 +1,5 @@
 // The totals of a year, held against their limits: the faults 6 and 7.
-ghost use Rattle.std.specs.Prelude.{◌≡◌, ℕ, ◌+◌, ◌*◌, ◌^◌, ◌<◌, ◌≤◌, length, slice_index_or};
+ghost use Rattle.std.specs.Prelude.{◌≡◌, ℕ, ◌^◌, ◌<◌, ◌≤◌, length, slice_index_or};
 ghost use Rattle.std.specs.Result.{result_err};
 ghost use Rattle.bits.specs.Faults.{year_fault};
 ghost use Rattle.agreement.specs.Totals.{entry_cost_of, exit_cost_of, network_cost, total_demand, total_energy};

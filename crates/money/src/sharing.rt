@@ -1,5 +1,5 @@
 // An amount shared over weights, in order, by running totals, so that no cent is lost or made.
-ghost use Rattle.std.specs.Prelude.{◌≡◌, ◌+◌, ◌≤◌, sum};
+ghost use Rattle.std.specs.Prelude.{◌+◌, ◌≤◌, sum};
 ghost use Rattle.std.specs.Option.{SomeIff};
 ghost use Rattle.money.specs.Sharing.{Sharable, share_of, shares_of, Shared};
 

@@ -1,5 +1,5 @@
 // Totals that are held against a limit.
-ghost use Rattle.std.specs.Prelude.{◌≡◌, ◌≤◌, sum};
+ghost use Rattle.std.specs.Prelude.{◌≤◌, sum};
 ghost use Rattle.std.specs.Option.{SomeIff};
 
 // What the numbers come to, where that is at most `limit`.
