@@ -1,48 +1,64 @@
 -- A part that is added to the amounts of all points, use by use. Assumes nothing.
-use Rattle.std.proofs.Common.{◌≡◌, ℕ, ◌+◌, ◌<◌, ◌≤◌, List, length, get_or, take, drop, set, sum, sym, refl, ap, ⊎_elim, arith, length-set, get_or-set_other, get_or-set_same}
+use Rattle.std.proofs.Common.{◌≡◌, ℕ, zero, suc, ◌+◌, ◌<◌, ◌≤◌, List, [], ◌∷◌, length, get_or, set, sum, sym, refl, ap, subst, ⊎_elim, le_of_suc-le-suc, not-suc-le-zero, arith, length-set, get_or-set_other, get_or-set_same}
+use Rattle.std.specs.List.{All}
 use Rattle.std.proofs.lemmas.Bool.{cases_eq}
-use Rattle.agreement.specs.Together.{no_use}
-use Rattle.money.specs.Sharing.{share_of}
 use Rattle.records.specs.declared.network_use.NetworkUse.{NetworkUse}
 use Rattle.standard.specs.Allotted.{demands, of_part}
 use Rattle.standard.specs.Exchange.{part_has}
-use Rattle.standard.proofs.Leaving.{left, left_own, left_other, left_none, left_all}
-use Rattle.standard.proofs.Totalling.{total_more, total_front}
+use Rattle.standard.specs.Order.{Placed}
+use Rattle.standard.specs.Portions.{Portioned, portions}
+use Rattle.standard.proofs.Portioning.{its_share, has, has_own, has_other, own_shares}
 
--- at the use at place i: what is drawn before it, and the amounts so far
-pub record Added (entry : List ℕ) (part total : ℕ) (us : List NetworkUse) (i before : ℕ) (amounts : List ℕ) : Type 0 where
-  pub drawn : before ≡ sum (demands (take i us))
+-- the amounts so far, and the portions of the uses to come
+pub record Added (entry : List ℕ) (part : ℕ) (us : List NetworkUse) (amounts : List ℕ) (rest : List (Portioned NetworkUse)) : Type 0 where
   pub long : length amounts ≡ 64
-  pub each : (p : ℕ) → p < 64 → get_or amounts p 0 + left part total p before (drop i us) ≡ get_or entry p 0 + of_part part p us
+  pub placed : All (λ q. q.item.point < 64) rest
+  pub each : (p : ℕ) → p < 64 → get_or amounts p 0 + has part p rest ≡ get_or entry p 0 + of_part part p us
 
-pub added_none : (entry : List ℕ) (part total : ℕ) (us : List NetworkUse) → length entry ≡ 64 → total ≡ sum (demands us) → Added entry part total us 0 0 entry
-added_none entry part total us long t = record { drawn = refl; long = long; each = λ p h. omega (arith, left_all part total p us t) }
+portions-placed : (total before : ℕ) (us : List NetworkUse) → Placed 64 us → All (λ (q : Portioned NetworkUse). q.item.point < 64) (portions (λ (u : NetworkUse). u.demand) total before us)
+portions-placed total before [] so k d h = absurd (not-suc-le-zero h)
+portions-placed total before (u ∷ us) so zero d h = so 0 u (omega arith)
+portions-placed total before (u ∷ us) so (suc k) d h = portions-placed total (before + u.demand) us (λ j v g. so (suc j) v (omega arith)) k d (le_of_suc-le-suc h)
 
-module _ (entry : List ℕ) (part total : ℕ) (us : List NetworkUse) (i before : ℕ) (amounts : List ℕ) (so : Added entry part total us i before amounts) where
-  pub added_all : length us ≤ i → (p : ℕ) → p < 64 → get_or amounts p 0 ≡ get_or entry p 0 + of_part part p us
-  added_all h p k = omega (arith, so.each p k, left_none part total p before us i h)
+pub added_none : (entry : List ℕ) (part : ℕ) (us : List NetworkUse) (rest : List (Portioned NetworkUse)) → length entry ≡ 64 → Placed 64 us
+    → rest ≡ portions (λ (u : NetworkUse). u.demand) (sum (demands us)) 0 us → Added entry part us entry rest
+added_none entry part us rest long so e = record {
+  long = long;
+  placed = subst (All (λ q. q.item.point < 64)) (sym e) (portions-placed (sum (demands us)) 0 us so);
+  each = λ p h. omega (arith, ap (has part p) e, own_shares part p us);
+}
 
-  module _ (h : i < length us) where
-    abbrev this : NetworkUse
-    this = get_or us i no_use
+module _ (entry : List ℕ) (part : ℕ) (us : List NetworkUse) (amounts : List ℕ) (rest : List (Portioned NetworkUse)) (so : Added entry part us amounts rest) where
+  pub added_all : rest ≡ [] → (p : ℕ) → p < 64 → get_or amounts p 0 ≡ get_or entry p 0 + of_part part p us
+  added_all e p h = omega (arith, so.each p h, ap (has part p) e)
 
-    pub demand_fits : before + this.demand ≤ sum (demands us)
-    demand_fits = omega (arith, so.drawn, total_more (λ (u : NetworkUse). u.demand) us i no_use h, total_front (λ (u : NetworkUse). u.demand) us (i + 1))
+  module _ (q : Portioned NetworkUse) (qs : List (Portioned NetworkUse)) (e : rest ≡ q ∷ qs) where
+    all_placed : All (λ (x : Portioned NetworkUse). x.item.point < 64) (q ∷ qs)
+    all_placed = subst (All (λ x. x.item.point < 64)) e so.placed
 
-    module _ (share : ℕ) (e : share ≡ share_of part before this.demand total) (inside : this.point < 64) where
-      -- the amount with the share is no more than the amount with the whole part
-      pub share_fits : get_or amounts this.point 0 + share ≤ get_or entry this.point 0 + part
-      share_fits = omega (arith, so.each this.point inside, left_own part total this.point before us i h refl, part_has part this.point us)
+    pub inside : q.item.point < 64
+    inside = all_placed 0 q (omega arith)
 
-      pub added_more : Added entry part total us (i + 1) (before + this.demand) (set amounts this.point (get_or amounts this.point 0 + share))
-      added_more =
-          let room : this.point < length amounts = omega (arith, so.long) in
-          let sums = get_or amounts this.point 0 + share in
-          record {
-            drawn = omega (arith, so.drawn, total_more (λ (u : NetworkUse). u.demand) us i no_use h);
-            long = simp length-set so.long;
-            each = λ p k. ⊎_elim
-                (λ same. omega (arith, so.each p k, left_own part total p before us i h same, ap (λ q. get_or (set amounts this.point sums) q 0) (sym same), get_or-set_same amounts this.point sums 0 room, ap (λ q. get_or amounts q 0) same))
-                (λ other. omega (arith, so.each p k, left_other part total p before us i h other, get_or-set_other amounts this.point p sums 0 (λ z. other (sym z))))
-                (cases_eq this.point p);
-          }
+    -- the amount with the share is no more than the amount with the whole part
+    pub share_fits : get_or amounts q.item.point 0 + its_share part q ≤ get_or entry q.item.point 0 + part
+    share_fits = omega (arith, so.each q.item.point inside, ap (has part q.item.point) e, has_own part q.item.point q qs refl, part_has part q.item.point us)
+
+    added_more : Added entry part us (set amounts q.item.point (get_or amounts q.item.point 0 + its_share part q)) qs
+    added_more =
+        let point = q.item.point in
+        let sums = get_or amounts point 0 + its_share part q in
+        let room : point < length amounts = omega (arith, so.long, inside) in
+        record {
+          long = simp length-set so.long;
+          placed = λ k d h. all_placed (suc k) d (omega arith);
+          each = λ p h. ⊎_elim
+              (λ same. omega (arith, so.each p h, ap (has part p) e, has_own part p q qs same, ap (λ j. get_or (set amounts point sums) j 0) (sym same), get_or-set_same amounts point sums 0 room, ap (λ j. get_or amounts j 0) same))
+              (λ other. omega (arith, so.each p h, ap (has part p) e, has_other part p q qs other, get_or-set_other amounts point p sums 0 (λ z. other (sym z))))
+              (cases_eq point p);
+        }
+
+    -- at a place and a share that were reckoned
+    pub added_at : (place share : ℕ) → place ≡ q.item.point → share ≡ its_share part q → Added entry part us (set amounts place (get_or amounts place 0 + share)) qs
+    added_at place share a b =
+        subst (λ (i : ℕ). Added entry part us (set amounts i (get_or amounts i 0 + share)) qs) (sym a)
+        (subst (λ (n : ℕ). Added entry part us (set amounts q.item.point (get_or amounts q.item.point 0 + n)) qs) (sym b) added_more)

@@ -1,8 +1,8 @@
 pub mod Adding
 pub mod Filling
-pub mod Leaving
+pub mod Fronts
 pub mod OfYear
+pub mod Parts
 pub mod Placing
-pub mod Segments
-pub mod Totalling
-pub mod Walking
+pub mod Portioning
+pub mod Segmenting

@@ -1,3 +1,5 @@
+pub mod Segments
+pub mod Portions
 pub mod Allotted
 pub mod Order
 pub mod Reduced

@@ -7,12 +7,13 @@ ghost use Rattle.standard.specs.Exchange.{amounts_length, amounts_sum};
 ghost use Rattle.standard.specs.Parting.{parts-length, parts-sum};
 ghost use Rattle.std.proofs.Common.{arith};
 
-use crate::elements::part_of;
 use crate::lends::Lends;
+use crate::pool::Pool;
+use crate::portions::Portions;
 use crate::rules::Rule;
-use crate::walk::{amount_of, amounts_of};
+use crate::segments::Segments;
 use bits::refusal::Refusal;
-use methods::method::{MAX_POOL, Method};
+use methods::method::Method;
 use year::filled::FilledYear;
 use year::year::Year;
 
@@ -71,25 +72,31 @@ impl<Y: Lends, R: Rule> Method for Allocation<Y, R> {
 
     fn amount(&self, pool: u64, place: usize) -> Result<u64, Refusal> {
         let year = self.year.year();
-        if pool > MAX_POOL || place >= year.points().len() {
+        let pool = Pool::new(pool)?;
+        if place >= year.points().len() {
             return Err(Refusal::ArgumentOutOfRange);
         }
-        Ok(amount_of(&self.rule, year.elements(), year.uses(), pool, place))
+        Ok(
+            Segments::new(year)
+                .map(|segment| segment.amount(&self.rule, pool, place))
+                .sum(),
+        )
     }
 
     fn part(&self, pool: u64, place: usize) -> Result<u64, Refusal> {
-        let elements = self.year.year().elements();
-        if pool > MAX_POOL || place >= elements.len() {
-            return Err(Refusal::ArgumentOutOfRange);
-        }
-        Ok(part_of(&self.rule, elements, pool, place))
+        let pool = Pool::new(pool)?;
+        let element = Portions::new(self.year.year().elements())
+            .nth(place)
+            .ok_or(Refusal::ArgumentOutOfRange)?;
+        Ok(element.part(&self.rule, pool).cents)
     }
 
     fn amounts(&self, pool: u64) -> Result<[u64; 64], Refusal> {
-        if pool > MAX_POOL {
-            return Err(Refusal::ArgumentOutOfRange);
+        let pool = Pool::new(pool)?;
+        let mut amounts = [0; 64];
+        for segment in Segments::new(self.year.year()) {
+            segment.add_amounts(&self.rule, pool, &mut amounts);
         }
-        let year = self.year.year();
-        Ok(amounts_of(&self.rule, year.elements(), year.uses(), pool))
+        Ok(amounts)
     }
 }

@@ -3,9 +3,12 @@
 #![tactic(auto)]
 
 pub mod allocation;
-mod elements;
 pub mod lends;
+mod pool;
+mod portions;
 pub mod rules;
+mod segments;
 mod shares;
 mod walk;
+mod weighs;
 pub mod worked;

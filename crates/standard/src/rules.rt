@@ -41,7 +41,7 @@ impl Rule for Modified {
 
     fn reduce(&self, part: u64, element: &Element) -> u64 {
         if element.peak < element.rating {
-            (part as u128 * element.peak as u128 / element.rating as u128) as u64
+            (u128::from(part) * u128::from(element.peak) / u128::from(element.rating)) as u64
         } else {
             part
         }

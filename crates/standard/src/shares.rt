@@ -1,82 +1,68 @@
-// Shares within the limits of a year.
-ghost use Rattle.std.specs.Prelude.{◌≡◌, ℕ, ◌+◌, ◌<◌, ◌≤◌, false, length, sum, ◌≢◌, slice_index, slice_index_or};
-ghost use Rattle.agreement.specs.Together.{no_use};
+// An amount that is shared over items, portion by portion.
+ghost use Rattle.std.specs.Prelude.{◌≡◌, ◌≤◌, map, sum};
+ghost use Rattle.std.specs.Iterator.{YieldsFirstBy, item_count};
 ghost use Rattle.money.specs.Sharing.{share_of};
-ghost use Rattle.standard.specs.Allotted.{demands, of_part};
-ghost use Rattle.standard.specs.Order.{Placed};
+ghost use Rattle.standard.specs.Portions.{portion, portions, to_come, reduced_part};
 
+use crate::pool::Pool;
+use crate::portions::{Portion, Portions};
+use crate::rules::Rule;
+use crate::weighs::Weighs;
 use money::sharing::share;
-use records::network_use::NetworkUse;
+use records::element::Element;
 
-// The share of one item, where nothing is out of range.
-pub(crate) fn share_within(amount: u64, before: u64, weight: u64, total: u64) -> u64
-    requires amount { amount ≤ 100000000000 }
-    requires weight { before + weight ≤ total }
-    requires total { total ≤ 10000000 }
-    ensures { result ≡ share_of amount before weight total }
-{
-    match share(amount, before, weight, total) {
-        Some(cents) => cents,
-        None => unreachable(),
+impl<'a, T: Weighs> Portion<'a, T> {
+    // The item's share of a pool.
+    pub(crate) fn share(&self, pool: Pool) -> u64
+        ensures { result ≡ share_of pool.cents self.now.before (T.weight self.now.item.now) self.now.total }
+    {
+        share(pool.cents, self.before, self.item.weight(), self.total).unwrap()
     }
 }
 
-// What the uses come to, in kW.
-pub(crate) fn total_demand(uses: &[NetworkUse]) -> u64
-    requires { sum (demands uses.now) ≤ 10000000 }
-    ensures { result ≡ sum (demands uses.now) }
-{
-    let mut total = 0;
-    for item in uses {
-        total += item.demand as u64;
-    }
-    total
-}
-
-// Whether one of the uses is by the point at a place.
-pub(crate) fn used_by(uses: &[NetworkUse], place: usize) -> bool
-    ensures { result ≡ false → (k : ℕ) → k < length uses.now → (slice_index_or uses.now k no_use).point ≢ place }
-{
-    for item in uses {
-        if place == item.point as usize {
-            return true;
+impl<'a> Portion<'a, Element> {
+    // The element's part of a pool: what a rule makes of its share. It is shared over the uses in its turn.
+    pub(crate) fn part<R: Rule>(&self, rule: &R, pool: Pool) -> Pool
+        ensures { result.cents ≡ reduced_part (R.reduced rule.now) pool.cents (portion self.now) }
+    {
+        Pool {
+            cents: rule.reduce(self.share(pool), self.item),
         }
     }
-    false
 }
 
-// What the point at a place has of a part that is shared over these uses. The uses of other points are only added up.
-pub(crate) fn of_part(uses: &[NetworkUse], place: usize, part: u64) -> u64
-    requires used { sum (demands uses.now) ≤ 10000000 }
-    requires part { part ≤ 100000000000 }
-    ensures { result ≡ of_part part place uses.now }
-{
-    let total = total_demand(uses);
-    let mut before = 0;
-    let mut amount = 0;
-    for item in uses {
-        let demand = item.demand as u64;
-        if item.point as usize == place {
-            amount += share_within(part, before, demand, total);
+impl<'a, T: Weighs> Portions<'a, T> {
+    pub(crate) fn new(items: &'a [T]) -> Portions<'a, T>
+        requires { sum (map T.weight items.now) ≤ 10000000 }
+        ensures { to_come result ≡ portions T.weight (sum (map T.weight items.now)) 0 items.now }
+    {
+        Portions {
+            items,
+            before: 0,
+            total: items.iter().map(|item| item.weight()).sum(),
         }
-        before += demand;
     }
-    amount
 }
 
-// Adds to the amount of each point what it has of a part that is shared over these uses.
-pub(crate) fn add_shares(amounts: &mut [u64; 64], uses: &[NetworkUse], part: u64)
-    requires used { sum (demands uses.now) ≤ 10000000 }
-    requires part { part ≤ 100000000000 }
-    requires placed { Placed 64 uses.now }
-    requires room { (p : ℕ) → p < 64 → slice_index amounts.old p ≤ 100000000000 }
-    ensures { (p : ℕ) → p < 64 → slice_index amounts.new p ≡ slice_index amounts.old p + of_part part p uses.now }
-{
-    let total = total_demand(uses);
-    let mut before = 0;
-    for item in uses {
-        let demand = item.demand as u64;
-        amounts[item.point as usize] += share_within(part, before, demand, total);
-        before += demand;
+impl<'a, T: Weighs> Iterator for Portions<'a, T> {
+    type Item = Portion<'a, T>;
+
+    ghost next_gives = { YieldsFirstBy portion to_come };
+
+    ghost remaining = { item_count to_come };
+
+    fn next(&mut self) -> Option<Portion<'a, T>> {
+        let (item, items) = self.items.split_first()?;
+        let portion = Portion {
+            item,
+            before: self.before,
+            total: self.total,
+        };
+        *self = Portions {
+            items,
+            before: self.before + item.weight(),
+            total: self.total,
+        };
+        Some(portion)
     }
 }

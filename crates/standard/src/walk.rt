@@ -1,69 +1,74 @@
-// One walk over the elements and their uses.
-ghost use Rattle.std.specs.Prelude.{◌≡◌, ℕ, ◌<◌, ◌≤◌, length, sum, slice_index};
-ghost use Rattle.agreement.specs.Totals.{total_use};
-ghost use Rattle.standard.specs.Allotted.{costs, of_parts, parts_of};
-ghost use Rattle.standard.specs.Order.{Placed, Rises};
+// A walk over the elements of a year and their uses, and what points have of the parts of the elements.
+ghost use Rattle.std.specs.Prelude.{◌≡◌, ℕ, ◌+◌, ◌<◌, ◌≤◌, slice_index};
+ghost use Rattle.std.specs.List.{prefix_len};
+ghost use Rattle.std.specs.Iterator.{YieldsFirstBy, item_count};
+ghost use Rattle.standard.specs.Order.{own};
+ghost use Rattle.standard.specs.Segments.{loaded, left, segments_in, of_segment};
+ghost use Rattle.year.specs.Holds.{contents};
 
-use crate::elements::{own_uses, part_after, total_cost};
+use crate::pool::Pool;
+use crate::portions::Portions;
 use crate::rules::Rule;
-use crate::shares::{add_shares, of_part, used_by};
-use records::element::Element;
+use crate::segments::{Segment, Segments};
 use records::network_use::NetworkUse;
+use year::year::Year;
 
-// The amount of the point at a place. Only the point's own uses cost divisions; the others are counted and added up.
-pub(crate) fn amount_of<R: Rule>(
-    rule: &R,
-    elements: &[Element],
-    uses: &[NetworkUse],
-    pool: u64,
-    place: usize,
-) -> u64
-    requires pool { pool ≤ 100000000000 }
-    requires costs { sum (costs elements.now) ≤ 10000000 }
-    requires used { (e : ℕ) → e < length elements.now → total_use e uses.now ≤ 10000000 }
-    requires rises { Rises 0 uses.now }
-    ensures { result ≡ of_parts uses.now place 0 (parts_of (R.reduced rule.now) elements.now pool) }
+// How many uses at the front are of the element at a place.
+fn own_uses(uses: &[NetworkUse], element: usize) -> usize
+    ensures { result ≡ prefix_len (own element) uses.now }
 {
-    let total = total_cost(elements);
-    let mut rest = uses;
-    let mut before = 0;
-    let mut amount = 0;
-    for (index, element) in elements.iter().enumerate() {
-        let (own, later) = rest.split_at(own_uses(rest, index));
-        if used_by(own, place) {
-            let part = part_after(rule, pool, before, element, total);
-            amount += of_part(own, place, part);
-        }
-        before += element.cost as u64;
-        rest = later;
-    }
-    amount
+    uses.iter()
+        .take_while(|used| usize::from(used.element) == element)
+        .count()
 }
 
-// The amounts of all points by place, with one share for each use.
-pub(crate) fn amounts_of<R: Rule>(
-    rule: &R,
-    elements: &[Element],
-    uses: &[NetworkUse],
-    pool: u64,
-) -> [u64; 64]
-    requires pool { pool ≤ 100000000000 }
-    requires costs { sum (costs elements.now) ≤ 10000000 }
-    requires used { (e : ℕ) → e < length elements.now → total_use e uses.now ≤ 10000000 }
-    requires rises { Rises 0 uses.now }
-    requires placed { Placed 64 uses.now }
-    ensures { (p : ℕ) → p < 64 → slice_index result p ≡ of_parts uses.now p 0 (parts_of (R.reduced rule.now) elements.now pool) }
-{
-    let total = total_cost(elements);
-    let mut rest = uses;
-    let mut before = 0;
-    let mut amounts = [0; 64];
-    for (place, element) in elements.iter().enumerate() {
-        let (own, later) = rest.split_at(own_uses(rest, place));
-        let part = part_after(rule, pool, before, element, total);
-        add_shares(&mut amounts, own, part);
-        before += element.cost as u64;
-        rest = later;
+impl<'a> Segments<'a> {
+    pub(crate) fn new(year: &'a Year) -> Segments<'a>
+        ensures { left result ≡ segments_in (contents year.now) }
+    {
+        Segments {
+            elements: Portions::new(year.elements()),
+            uses: year.uses(),
+            place: 0,
+        }
     }
-    amounts
+}
+
+impl<'a> Iterator for Segments<'a> {
+    type Item = Segment<'a>;
+
+    ghost next_gives = { YieldsFirstBy loaded left };
+
+    ghost remaining = { item_count left };
+
+    fn next(&mut self) -> Option<Segment<'a>> {
+        let element = self.elements.next()?;
+        let (uses, later) = self.uses.split_at(own_uses(self.uses, self.place));
+        self.uses = later;
+        self.place += 1;
+        Some(Segment { element, uses })
+    }
+}
+
+impl<'a> Segment<'a> {
+    // What the point at a place has of the element's part. Only its own uses cost divisions; the others are added up.
+    pub(crate) fn amount<R: Rule>(&self, rule: &R, pool: Pool, place: usize) -> u64
+        ensures { result ≡ of_segment (R.reduced rule.now) pool.cents place (loaded self.now) }
+    {
+        Portions::new(self.uses)
+            .filter(|used| usize::from(used.item.point) == place)
+            .map(|used| used.share(self.element.part(rule, pool)))
+            .sum()
+    }
+
+    // Adds to the amount of each point what it has of the element's part.
+    pub(crate) fn add_amounts<R: Rule>(&self, rule: &R, pool: Pool, amounts: &mut [u64; 64])
+        requires room { (p : ℕ) → p < 64 → slice_index amounts.old p ≤ 100000000000 }
+        ensures { (p : ℕ) → p < 64 → slice_index amounts.new p ≡ slice_index amounts.old p + of_segment (R.reduced rule.now) pool.cents p (loaded self.now) }
+    {
+        let part = self.element.part(rule, pool);
+        for used in Portions::new(self.uses) {
+            amounts[usize::from(used.item.point)] += used.share(part);
+        }
+    }
 }

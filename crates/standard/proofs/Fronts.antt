@@ -40,6 +40,9 @@ own-front e (u ∷ us) r = ⊎_elim
     ∙ (sym (none_before e u.element us (omega (arith, r.0)) r.1) ∙ sym (uses_no e u us other)))
     (cases_eq u.element e)
 
+pub front_is : (e : ℕ) (us : List NetworkUse) → Rises e us → (count : ℕ) → count ≡ prefix_len (own e) us → (front : List NetworkUse) → front ≡ take count us → front ≡ uses_of e us
+front_is e us r count counted front h = h ∙ ap (λ n. take n us) counted ∙ own-front e us r
+
 -- what follows rises from the next element on
 pub own_after : (e : ℕ) (us : List NetworkUse) → Rises e us → Rises (e + 1) (drop (prefix_len (own e) us) us)
 own_after e [] r = r
