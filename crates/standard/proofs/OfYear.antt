@@ -1,5 +1,5 @@
 -- What the limits of a year give a method. Assumes nothing.
-use Rattle.std.proofs.Common.{ℕ, ◌<◌, length, arith}
+use Rattle.std.proofs.Common.{◌<◌, length, arith}
 use Rattle.std.proofs.lemmas.List.Elements.{All-from_get_or}
 use Rattle.agreement.specs.Together.{no_use}
 use Rattle.year.specs.Holds.{contents}

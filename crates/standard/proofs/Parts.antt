@@ -1,5 +1,5 @@
 -- The parts of the elements, by their portions of the costs. Assumes nothing.
-use Rattle.std.proofs.Common.{◌≡◌, ℕ, ◌+◌, ◌<◌, ◌≤◌, List, [], ◌∷◌, map, length, sum, sum_by, get_or, Some, None, Ok, Err, Option, sym, refl, ap, ◌∙◌, ⊎_elim, arith}
+use Rattle.std.proofs.Common.{◌≡◌, ℕ, ◌+◌, ◌<◌, ◌≤◌, List, [], ◌∷◌, map, length, sum, sum_by, get_or, Some, None, Ok, Err, sym, refl, ap, ◌∙◌, ⊎_elim, arith}
 use Rattle.std.specs.List.{slice_get}
 use Rattle.std.specs.Option.{option_map}
 use Rattle.std.proofs.lemmas.Bool.{le-ltb, and_right, cond-false, cases_lt}
@@ -13,7 +13,7 @@ use Rattle.methods.proofs.Answering.{asked-within}
 use Rattle.money.specs.Sharing.{shares_after, shares_of}
 use Rattle.records.specs.declared.element.Element.{Element}
 use Rattle.records.specs.declared.network_use.NetworkUse.{NetworkUse}
-use Rattle.standard.specs.Allotted.{costs, uses_of, of_part, of_parts, parts_of, parts_in}
+use Rattle.standard.specs.Allotted.{costs, uses_of, of_parts, parts_of, parts_in}
 use Rattle.standard.specs.Exchange.{parts_have}
 use Rattle.standard.specs.Parting.{parts-sum}
 use Rattle.standard.specs.Portions.{Portioned, portions, reduced_part}

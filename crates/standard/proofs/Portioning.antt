@@ -1,5 +1,5 @@
 -- What a point has of a part, as the sum over the portions of its uses. Assumes nothing.
-use Rattle.std.proofs.Common.{◌≡◌, ℕ, ◌+◌, ◌*◌, ◌/◌, ◌<◌, ◌≤◌, Bool, cond, eqb, List, [], ◌∷◌, filter, sum, sum_by, refl, ap, ◌∙◌, ⊎_elim, mul_comm, mul-le-mul_left, arith}
+use Rattle.std.proofs.Common.{◌≡◌, ℕ, ◌+◌, ◌*◌, ◌/◌, ◌≤◌, Bool, eqb, List, [], ◌∷◌, filter, sum, sum_by, refl, ap, ◌∙◌, ⊎_elim, mul_comm, mul-le-mul_left, arith}
 use Rattle.std.proofs.Math.Nat.{div-le_of_le-mul}
 use Rattle.std.proofs.lemmas.Bool.{eq-eqb, ne_eqb, cases_eq, cond-true, cond-false}
 use Rattle.std.proofs.lemmas.List.Sums.{sum_by-cons}

@@ -6,7 +6,7 @@ use Rattle.records.specs.declared.network_use.NetworkUse.{NetworkUse}
 use Rattle.standard.specs.Allotted.{uses_of}
 use Rattle.standard.specs.Order.{own}
 use Rattle.standard.specs.Portions.{Portioned, portions}
-use Rattle.standard.specs.Segments.{Loaded, segments}
+use Rattle.standard.specs.Segments.{segments}
 use Rattle.standard.proofs.Fronts.{own_later}
 
 module _ {X : Type 0} (weight : X → ℕ) (total : ℕ) where

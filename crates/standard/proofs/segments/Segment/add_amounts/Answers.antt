@@ -1,7 +1,5 @@
-use Rattle.std.proofs.Common.{◌≡◌, ◌+◌, ◌<◌, get_or, ap, ◌∙◌, arith}
-use Rattle.records.specs.declared.network_use.NetworkUse.{NetworkUse}
+use Rattle.std.proofs.Common.{◌+◌, get_or, ap, ◌∙◌, arith}
 use Rattle.standard.specs.Allotted.{of_part}
-use Rattle.standard.specs.Portions.{portions}
 use Rattle.standard.proofs.Adding.{added_none, added_all, inside, share_fits, added_at}
 use Rattle.standard.proofs.segments.Segment.add_amounts.Goals as goal
 

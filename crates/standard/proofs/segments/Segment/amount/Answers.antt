@@ -1,4 +1,4 @@
-use Rattle.std.proofs.Common.{rules, tests, ◌≡◌, ◌<◌, filter, sum, sum_by, ◌∙◌, arith}
+use Rattle.std.proofs.Common.{rules, tests, filter, sum, ◌∙◌, arith}
 use Rattle.std.proofs.lemmas.Iterator.{YieldsList-from_map}
 use Rattle.std.proofs.lemmas.Iterator.Consumers.{YieldsList-at, YieldsList-from_first, YieldsList-from_filter, sum_by_from_yields_List, fits_by_from_yields_list}
 use Rattle.money.specs.Sharing.{share_of}

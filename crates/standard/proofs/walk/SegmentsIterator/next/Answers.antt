@@ -1,4 +1,4 @@
-use Rattle.std.proofs.Common.{rules, ◌≡◌, ℕ, suc, ◌+◌, ◌≤◌, List, ◌∷◌, length, drop, sum, sym, ap, ◌∙◌, subst, arith}
+use Rattle.std.proofs.Common.{rules, ◌≡◌, ℕ, suc, ◌+◌, ◌≤◌, List, length, drop, sum, sym, ap, ◌∙◌, subst, arith}
 use Rattle.std.specs.List.{prefix_len}
 use Rattle.std.proofs.lemmas.List.Sums.{prefix_len-le-length}
 use Rattle.records.specs.declared.element.Element.{Element}
@@ -6,7 +6,7 @@ use Rattle.records.specs.declared.network_use.NetworkUse.{NetworkUse}
 use Rattle.standard.specs.Allotted.{demands, uses_of}
 use Rattle.standard.specs.Order.{own, Placed, Rises}
 use Rattle.standard.specs.Portions.{portions}
-use Rattle.standard.proofs.Fronts.{own-front, own_after, own_later, front_is}
+use Rattle.standard.proofs.Fronts.{own_after, own_later, front_is}
 use Rattle.standard.proofs.Segmenting.{length-portions, segments-step}
 use Rattle.standard.proofs.walk.SegmentsIterator.next.Goals as goal
 
