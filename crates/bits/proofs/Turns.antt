@@ -1,10 +1,11 @@
 -- Rows of fields, one field at a time. Assumes nothing.
-use Rattle.std.proofs.Common.{◌≡◌, ℕ, zero, suc, ◌+◌, ◌<◌, ◌≤◌, Bool, ◌&&◌, leb, true, false, cond, List, [], ◌∷◌, ◌++◌, length, get_or, take, drop, set, replicate, Some, None, sym, refl, ap, ◌∙◌, add-one, arith}
+use Rattle.std.proofs.Common.{◌≡◌, ℕ, zero, suc, ◌+◌, ◌<◌, ◌≤◌, ◌&&◌, leb, true, false, List, [], ◌∷◌, ◌++◌, length, get_or, take, drop, set, replicate, Some, None, Option, sym, refl, ap, ◌∙◌, add-one, arith}
 use Rattle.std.proofs.lemmas.List.{length-append, append_assoc, append-nil, drop_more, drop_all, take_all, take_more_set, length-set, length-drop, length-replicate}
 use Rattle.std.proofs.lemmas.Bool.{and_parts, leb-true}
 use Rattle.bits.specs.Bits.{bits_of, number}
 use Rattle.bits.specs.Faults.{field_fault}
 use Rattle.bits.specs.Layout.{plain, narrow, meaning, keeps, values_in, packed, span, first_bad, Narrow}
+use Rattle.bits.specs.declared.fault.Fault.{Fault}
 use Rattle.bits.specs.declared.field.Field.{Field}
 use Rattle.bits.proofs.Digits.{length-bits_of}
 
@@ -59,49 +60,42 @@ read_all fs whole values i n now r h l =
     let b = drop_all i fs h in
     sym (r.values ∙ (ap (λ (gs : List Field). take i values ++ values_in gs now) b ∙ (append-nil (take i values) ∙ a)))
 
--- the loop that checks: what is left decides
-pub bad_more : (place i : ℕ) (fs : List Field) (vs : List ℕ) (d : Field) → i < length fs → i < length vs → keeps (get_or fs i d) (get_or vs i 0) ≡ true
-    → first_bad place (i + 1) (drop i fs) (drop i vs) ≡ first_bad place (i + 1 + 1) (drop (i + 1) fs) (drop (i + 1) vs)
+-- the loop that checks: the fields and values that are left decide
+pub record Checked (whole : Option Fault) (nth i : ℕ) (fs : List Field) (vs : List ℕ) : Type 0 where
+  pub left : whole ≡ first_bad nth (i + 1) fs vs
+  pub narrow : Narrow fs
+  pub count : length fs ≡ length vs
+
+pub checked_more : (whole : Option Fault) (nth i : ℕ) (f : Field) (fs : List Field) (v : ℕ) (vs : List ℕ) → Checked whole nth i (f ∷ fs) (v ∷ vs) → keeps f v ≡ true → Checked whole nth (i + 1) fs vs
 unfolding first_bad
-bad_more place i fs vs d h l e =
-    ap (λ (gs : List Field). first_bad place (i + 1) gs (drop i vs)) (drop_more fs i d h) ∙
-    (ap (λ (us : List ℕ). first_bad place (i + 1) (get_or fs i d ∷ drop (i + 1) fs) us) (drop_more vs i 0 l) ∙
-    (ap (λ (b : Bool). cond b (first_bad place (suc (i + 1)) (drop (i + 1) fs) (drop (i + 1) vs)) (Some (field_fault place (i + 1)))) e ∙
-    ap (λ (n : ℕ). first_bad place n (drop (i + 1) fs) (drop (i + 1) vs)) (sym (add-one (i + 1)))))
+checked_more whole nth i f fs v vs r e =
+    record { left = r.left ∙ rw (e, ← add-one (i + 1)); narrow = r.narrow.2; count = omega (arith, r.count) }
 
-pub bad_here : (place i : ℕ) (fs : List Field) (vs : List ℕ) (d : Field) → i < length fs → i < length vs → keeps (get_or fs i d) (get_or vs i 0) ≡ false
-    → first_bad place (i + 1) (drop i fs) (drop i vs) ≡ Some (field_fault place (i + 1))
+pub checked_bad : (whole : Option Fault) (nth i : ℕ) (f : Field) (fs : List Field) (v : ℕ) (vs : List ℕ) → Checked whole nth i (f ∷ fs) (v ∷ vs) → keeps f v ≡ false → whole ≡ Some (field_fault nth (i + 1))
 unfolding first_bad
-bad_here place i fs vs d h l e =
-    ap (λ (gs : List Field). first_bad place (i + 1) gs (drop i vs)) (drop_more fs i d h) ∙
-    (ap (λ (us : List ℕ). first_bad place (i + 1) (get_or fs i d ∷ drop (i + 1) fs) us) (drop_more vs i 0 l) ∙
-    ap (λ (b : Bool). cond b (first_bad place (suc (i + 1)) (drop (i + 1) fs) (drop (i + 1) vs)) (Some (field_fault place (i + 1)))) e)
+checked_bad whole nth i f fs v vs r e = r.left ∙ rw e
 
-pub bad_none : (place i n : ℕ) (fs : List Field) (vs : List ℕ) → length fs ≤ i → first_bad place n (drop i fs) (drop i vs) ≡ None
+pub checked_all : (whole : Option Fault) (nth i : ℕ) → Checked whole nth i [] [] → whole ≡ None
 unfolding first_bad
-bad_none place i n fs vs h = ap (λ (gs : List Field). first_bad place n gs (drop i vs)) (drop_all i fs h)
+checked_all whole nth i r = r.left
 
--- the loop that writes: what is written, and the bits of what is left
-pub record Wrote (fs : List Field) (vs : List ℕ) (i m : ℕ) (now : List ℕ) : Type 0 where
-  pub bits : packed fs vs ≡ now ++ packed (drop i fs) (drop i vs)
-  pub room : length now + span (drop i fs) ≡ m
+-- the loop that writes: what is written, and the fields and values that are left
+pub record Wrote (whole : List ℕ) (m : ℕ) (now : List ℕ) (fs : List Field) (vs : List ℕ) : Type 0 where
+  pub bits : whole ≡ now ++ packed fs vs
+  pub room : length now + span fs ≡ m
+  pub narrow : Narrow fs
+  pub count : length fs ≡ length vs
 
-pub wrote_more : (fs : List Field) (vs : List ℕ) (i m : ℕ) (now next : List ℕ) (d : Field) → Wrote fs vs i m now → i < length fs → i < length vs
-    → next ≡ now ++ bits_of (get_or fs i d).width (get_or vs i 0) → Wrote fs vs (i + 1) m next
+pub wrote_more : (whole : List ℕ) (m : ℕ) (now next : List ℕ) (f : Field) (fs : List Field) (v : ℕ) (vs : List ℕ) → Wrote whole m now (f ∷ fs) (v ∷ vs) → next ≡ now ++ bits_of f.width v → Wrote whole m next fs vs
 unfolding packed
-wrote_more fs vs i m now next d r h l e =
-    let b : packed (drop i fs) (drop i vs) ≡ bits_of (get_or fs i d).width (get_or vs i 0) ++ packed (drop (i + 1) fs) (drop (i + 1) vs) =
-    ap (λ (gs : List Field). packed gs (drop i vs)) (drop_more fs i d h) ∙ ap (λ (us : List ℕ). packed (get_or fs i d ∷ drop (i + 1) fs) us) (drop_more vs i 0 l) in
-    let s = read_width fs i d h in
-    let n : length next ≡ length now + (get_or fs i d).width = ap length e ∙ (length-append now (bits_of (get_or fs i d).width (get_or vs i 0)) ∙ ap (λ (k : ℕ). length now + k) (length-bits_of (get_or fs i d).width (get_or vs i 0))) in
+wrote_more whole m now next f fs v vs r e =
     record {
-      bits = r.bits ∙ (ap (λ (x : List ℕ). now ++ x) b ∙ (sym (append_assoc now (bits_of (get_or fs i d).width (get_or vs i 0)) (packed (drop (i + 1) fs) (drop (i + 1) vs))) ∙ ap (λ (x : List ℕ). x ++ packed (drop (i + 1) fs) (drop (i + 1) vs)) (sym e)));
-      room = omega (arith, r.room);
+      bits = r.bits ∙ (sym (append_assoc now (bits_of f.width v) (packed fs vs)) ∙ ap (λ (x : List ℕ). x ++ packed fs vs) (sym e));
+      room = omega (arith, r.room, ap length e, length-append now (bits_of f.width v), length-bits_of f.width v);
+      narrow = r.narrow.2;
+      count = omega (arith, r.count);
     }
 
-pub wrote_all : (fs : List Field) (vs : List ℕ) (i m : ℕ) (now : List ℕ) → Wrote fs vs i m now → length fs ≤ i → (now ≡ packed fs vs) × (length now ≡ m)
+pub wrote_all : (whole : List ℕ) (m : ℕ) (now : List ℕ) → Wrote whole m now [] [] → (now ≡ whole) × (length now ≡ m)
 unfolding packed
-wrote_all fs vs i m now r h =
-    let b = drop_all i fs h in
-    let s = ap span b in
-    (sym (r.bits ∙ (ap (λ (gs : List Field). now ++ packed gs (drop i vs)) b ∙ append-nil now)), omega (arith, r.room))
+wrote_all whole m now r = (sym (r.bits ∙ append-nil now), omega (arith, r.room))

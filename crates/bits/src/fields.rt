@@ -86,6 +86,7 @@ impl<const N: usize, const M: usize> Layout<N, M> {
     {
         let mut bits = Reader::new(bytes);
         let mut values = [0; N];
+        // By `map` the closure would read on, and nothing would be known of what it gives.
         for (i, field) in self.fields.iter().enumerate() {
             values[i] = field.meaning(bits.take(field.width));
         }
@@ -97,8 +98,8 @@ impl<const N: usize, const M: usize> Layout<N, M> {
         ensures fault { result_err result ≡ first_bad «record» 1 self.now.fields values.now }
         ensures kept { OnOk result (AllKeep self.now.fields values.now) }
     {
-        for (i, field) in self.fields.iter().enumerate() {
-            if !field.keeps(values[i]) {
+        for (i, (field, value)) in self.fields.iter().zip(values).enumerate() {
+            if !field.keeps(*value) {
                 return Err(Fault::outside(record, i as u8 + 1));
             }
         }
@@ -110,8 +111,8 @@ impl<const N: usize, const M: usize> Layout<N, M> {
         ensures { result ≡ bytes_of M (packed self.now.fields values.now) }
     {
         let mut bits = Writer::new();
-        for (i, field) in self.fields.iter().enumerate() {
-            bits.put(values[i], field.width);
+        for (field, value) in self.fields.iter().zip(values) {
+            bits.put(*value, field.width);
         }
         bits.finish()
     }

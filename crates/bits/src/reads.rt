@@ -47,6 +47,7 @@ impl<'a> Reader<'a> {
         ensures after { ahead self.new ≡ drop width (ahead self.old) }
     {
         let mut value = 0;
+        // A step takes as many bits as the byte at hand has, so what is left is no count of steps.
         let mut left = width;
         while left > 0 {
             let count = left.min(8 - self.used);

@@ -40,6 +40,7 @@ impl<const N: usize> Writer<N> {
         requires room { length (written self.old) + width ≤ 8 * N }
         ensures { written self.new ≡ written self.old ++ bits_of width value }
     {
+        // A step fills the byte at hand, so what is left is no count of steps.
         let mut left = width;
         while left > 0 {
             let count = left.min(8 - self.used);

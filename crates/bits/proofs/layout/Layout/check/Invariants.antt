@@ -1,6 +1,6 @@
-use Rattle.std.proofs.Common.{◌≡◌, ◌+◌, drop}
 use Rattle.bits.specs.Layout.{first_bad}
+use Rattle.bits.proofs.Turns.{Checked}
 use Rattle.bits.proofs.layout.Layout.check.Given as goal
 
 abbrev pub invariant-loop-i : goal.invariant-loop-i
-invariant-loop-i g l = first_bad l.record 1 l.self.fields l.values ≡ first_bad l.record (l.i + 1) (drop l.i l.self.fields) (drop l.i l.values)
+invariant-loop-i g l = Checked (first_bad l.«record» 1 l.self.fields l.values) l.«record» l.i-iterator.count l.i-iterator.iter.a.rest.now l.i-iterator.iter.b.rest.now

@@ -1,7 +1,8 @@
 use Rattle.std.proofs.Common.{◌*◌}
+use Rattle.bits.specs.Layout.{packed}
 use Rattle.bits.specs.Written.{written}
 use Rattle.bits.proofs.Turns.{Wrote}
 use Rattle.bits.proofs.layout.Layout.encode.Given as goal
 
-abbrev pub invariant-loop-i : goal.invariant-loop-i
-invariant-loop-i g l = Wrote l.self.fields l.values l.i (8 * g.row.M) (written l.bits)
+abbrev pub invariant-loop-field : goal.invariant-loop-field
+invariant-loop-field g l = Wrote (packed l.self.fields l.values) (8 * g.row.M) (written l.bits) l.field-iterator.a.rest.now l.field-iterator.b.rest.now
