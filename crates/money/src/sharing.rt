@@ -33,7 +33,8 @@ pub fn shares<const N: usize>(amount: u64, weights: [u64; N]) -> Option<[u64; N]
     if amount > MAX_AMOUNT {
         return None;
     }
-    // Each weight gives way to its share. A `map` is no plainer: its closure would change the total, and `?` could not leave it.
+    // Each weight gives way to its share. A `map` is no plainer: its closure would change `before`, and `?` cannot leave
+    // a closure.
     let mut shares = weights;
     let mut before = 0;
     for place in &mut shares {
