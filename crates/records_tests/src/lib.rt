@@ -7,6 +7,8 @@ mod bytes;
 
 #[cfg(test)]
 mod tests {
+    ghost use Rattle.std.specs.Prelude.{◌<◌};
+
     use crate::bytes::*;
     use bits::fault::Fault;
     use bits::refusal::Refusal;
@@ -29,31 +31,20 @@ mod tests {
         Ok(header)
     }
 
-    fn point_again(rt: &impl Abort, bytes: &[u8; 15]) -> Result<Point, Fail> {
-        let point = Point::read(bytes, 1)?;
-        let mut buffer = [0xff; 16];
-        assert_eq!(rt; point.write(&mut buffer, 1), Ok(15));
-        assert_eq!(rt; &buffer[0..15], &bytes[0..15]);
-        assert_eq!(rt; buffer[15], 0xff);
-        Ok(point)
-    }
-
-    fn element_again(rt: &impl Abort, bytes: &[u8; 9]) -> Result<Element, Fail> {
-        let element = Element::read(bytes, 4)?;
-        let mut buffer = [0xff; 10];
-        assert_eq!(rt; element.write(&mut buffer, 4), Ok(9));
-        assert_eq!(rt; &buffer[0..9], &bytes[0..9]);
-        assert_eq!(rt; buffer[9], 0xff);
-        Ok(element)
-    }
-
-    fn use_again(rt: &impl Abort, bytes: &[u8; 5]) -> Result<NetworkUse, Fail> {
-        let network_use = NetworkUse::read(bytes, 5)?;
-        let mut buffer = [0xff; 6];
-        assert_eq!(rt; network_use.write(&mut buffer, 5), Ok(5));
-        assert_eq!(rt; &buffer[0..5], &bytes[0..5]);
-        assert_eq!(rt; buffer[5], 0xff);
-        Ok(network_use)
+    // The record in these bytes, which it is written as again, and no byte more.
+    fn again<T: Row<N, M> + Drop, const N: usize, const M: usize>(
+        rt: &impl Abort,
+        bytes: &[u8; M],
+        record: u16,
+    ) -> Result<T, Fail>
+        requires { M < 64 }
+    {
+        let item = T::read(bytes, record)?;
+        let mut buffer = [0xff; 64];
+        assert_eq!(rt; item.write(&mut buffer[0..M + 1], record), Ok(M));
+        assert_eq!(rt; &buffer[0..M], &bytes[0..M]);
+        assert_eq!(rt; buffer[M], 0xff);
+        Ok(item)
     }
 
     fn bill_again(rt: &impl Abort, bytes: &[u8; 41]) -> Result<Bill, Fail> {
@@ -86,22 +77,22 @@ mod tests {
             contract_demand: 1_000,
             energy: 6_000,
         };
-        assert_eq!(rt; point_again(&rt, POINTS[0])?.entry_cost, 100);
-        assert_eq!(rt; point_again(&rt, POINTS[1])?, point);
-        assert_eq!(rt; point_again(&rt, POINTS[2])?.identifier, 13);
+        assert_eq!(rt; again::<Point, 6, 15>(&rt, POINTS[0], 1)?.entry_cost, 100);
+        assert_eq!(rt; again::<Point, 6, 15>(&rt, POINTS[1], 1)?, point);
+        assert_eq!(rt; again::<Point, 6, 15>(&rt, POINTS[2], 1)?.identifier, 13);
         let element = Element {
             cost: 500,
             rating: 2_000,
             peak: 1_500,
         };
-        assert_eq!(rt; element_again(&rt, ELEMENT)?, element);
+        assert_eq!(rt; again::<Element, 3, 9>(&rt, ELEMENT, 4)?, element);
         let network_use = NetworkUse {
             element: 0,
             point: 1,
             demand: 1_000,
         };
-        assert_eq!(rt; use_again(&rt, USES[0])?, network_use);
-        assert_eq!(rt; use_again(&rt, USES[1])?.demand, 500);
+        assert_eq!(rt; again::<NetworkUse, 4, 5>(&rt, USES[0], 5)?, network_use);
+        assert_eq!(rt; again::<NetworkUse, 4, 5>(&rt, USES[1], 5)?.demand, 500);
         Ok(())
     }
 
@@ -160,7 +151,7 @@ mod tests {
             point_again(&rt, bytes)?;
         }
         for bytes in ELEMENT_LIMITS {
-            element_again(&rt, bytes)?;
+            again::<Element, 3, 9>(&rt, bytes, 4)?;
         }
         for bytes in USE_LIMITS {
             use_again(&rt, bytes)?;
@@ -301,7 +292,7 @@ mod tests {
             },
             11,
         );
-        let network_use = use_again(&rt, USES[0])?;
+        let network_use = again::<NetworkUse, 4, 5>(&rt, USES[0], 5)?;
         use_refused(
             &rt,
             NetworkUse {
