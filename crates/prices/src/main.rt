@@ -14,41 +14,18 @@ const MOST_BYTES: u64 = 23_772;
 
 // The page of the year in a file, where no year was opened before and nothing is outstanding.
 fn page_of(year: &mut Year, file: &[u8]) -> Result<Page, Refusal> {
-    if let Err(fault) = year.read(file) {
-        return Err(fault.refusal);
-    }
+    year.read(file)?;
     let method = Allocation::new(year, Standard)?;
     Page::new(year, &method, &LocationalPrices::none(), 0)
 }
 
-fn print_page(rt: &HostRuntime, page: &Page) -> anyhow::Result<()> {
-    println!(rt; "{} {}", page.year, page.points)?;
-    for row in page.charges.iter().take(page.points) {
-        println!(rt;
-            "{} {} {} {} {} {}",
-            row.identifier, row.entry, row.exit, row.locational, row.non_locational, row.common
-        )?;
-    }
-    let left = page
-        .non_locational_remainder
-        .saturating_add(page.common_remainder);
-    println!(rt; "left {left}")?;
-    Ok(())
-}
-
-fn run(rt: &HostRuntime) -> anyhow::Result<()> {
+fn main(rt: HostRuntime) -> anyhow::Result<()> {
     let mut file = Vec::new(rt.alloc());
     rt.stdin().take(MOST_BYTES).read_to_end(&mut file)?;
     let mut year = Year::new(rt.alloc())?;
     match page_of(&mut year, &file) {
-        Ok(page) => print_page(rt, &page),
-        Err(refusal) => {
-            println!(rt; "refused {}", refusal.number())?;
-            Ok(())
-        }
+        Ok(page) => println!(&rt; "{page}")?,
+        Err(refusal) => println!(&rt; "{refusal}")?,
     }
-}
-
-fn main(rt: HostRuntime) -> anyhow::Result<()> {
-    run(&rt)
+    Ok(())
 }

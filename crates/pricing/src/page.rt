@@ -1,15 +1,17 @@
 // What the page of a year says.
 
+use std::fmt;
+
 // The average locational price of a year and the price at each place, in thousandths of a cent per kW; zero past the last
 // point, and all zero where no year was opened.
-#[derive(Clone, Copy)]
+#[derive(Clone, Copy, Debug, PartialEq, Eq)]
 pub struct LocationalPrices {
     pub average: u64,
     pub prices: [u64; 64],
 }
 
 // The five yearly charges of a connection point, in cents.
-#[derive(Clone, Copy)]
+#[derive(Clone, Copy, Debug, PartialEq, Eq)]
 pub struct PointCharges {
     pub identifier: u16,
     pub entry: u64,
@@ -19,7 +21,23 @@ pub struct PointCharges {
     pub common: u64,
 }
 
-#[derive(Clone, Copy)]
+// In decimal, on one line: the identifier and the five charges.
+impl fmt::Display for PointCharges {
+    fn fmt<W: fmt::Write>(&self, f: &mut fmt::Formatter<W>) -> fmt::Result {
+        write!(
+            f,
+            "{} {} {} {} {} {}",
+            self.identifier,
+            self.entry,
+            self.exit,
+            self.locational,
+            self.non_locational,
+            self.common
+        )
+    }
+}
+
+#[derive(Clone, Copy, Debug, PartialEq, Eq)]
 pub struct Page {
     pub year: u16,
     pub points: usize,
@@ -32,4 +50,18 @@ pub struct Page {
     pub non_locational_remainder: u64,
     pub common_price: u64,
     pub common_remainder: u64,
+}
+
+// In decimal: the year and the number of points, a line for each point, and what both spreads left.
+impl fmt::Display for Page {
+    fn fmt<W: fmt::Write>(&self, f: &mut fmt::Formatter<W>) -> fmt::Result {
+        writeln!(f, "{} {}", self.year, self.points)?;
+        for charges in self.charges.iter().take(self.points) {
+            writeln!(f, "{charges}")?;
+        }
+        let left = self
+            .non_locational_remainder
+            .saturating_add(self.common_remainder);
+        write!(f, "left {left}")
+    }
 }
