@@ -19,6 +19,7 @@ ghost use Rattle.standard.specs.Reduced.{by_peak};
 // - narrow: after a price of 1 and at a ratio of 10,500, both bounds are 1.
 // - months: a charge of 100 cents in months 1, 2, 3 and 12.
 // - reduced: a part of 225,000 at a peak of 1,500 of 2,000.
+#[tactic(auto, unfolding(money::specs::Sharing::shares_of))]
 pub fn worked_cases()
     ensures thirds { shares_of 100 (1 ∷ 1 ∷ 1 ∷ []) ≡ 33 ∷ 33 ∷ 34 ∷ [] }
     ensures residue { not_below_zero (l1_of 225000 (pos 300000)) ≡ 0 }
