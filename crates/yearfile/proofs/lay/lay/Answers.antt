@@ -1,10 +1,13 @@
-use Rattle.std.proofs.Common.{arith}
+use Rattle.std.proofs.Common.{length, ap, ◌∙◌, arith}
+use Rattle.std.proofs.lemmas.List.{take_rest, length-drop}
 use Rattle.bits.proofs.Trips.{length_record}
-use Rattle.yearfile.proofs.Laying.{lay_ok}
+use Rattle.yearfile.proofs.Laying.{written}
 use Rattle.yearfile.proofs.lay.lay.Goals as goal
 
 pub unwrap-requires : goal.unwrap-requires
-unwrap-requires g c = lay_ok g.T.Row.form c.args.item.now c.args.at c.args.buffer.now c.requires.room c.write.result c.requires.ranged c.write.ensures.fault
+unwrap-requires g c =
+    let n = ap length (take_rest c.args.buffer.now c.args.at) ∙ length-drop c.args.at c.args.buffer.now in
+    written g.T.Row.form c.args.item.now _ c.write.result c.requires.ranged (omega (arith, length_record g.T.Row.form c.args.item.now)) c.write.ensures.fault
 
 pub returns-clause-end : goal.returns-clause-end
 returns-clause-end g c =

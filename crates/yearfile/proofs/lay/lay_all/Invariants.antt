@@ -1,6 +1,16 @@
-use Rattle.bits.specs.Forms.{record_bytes}
-use Rattle.yearfile.proofs.Laying.{Laid}
+use Rattle.std.proofs.Common.{◌≡◌, ◌+◌, length, drop}
+use Rattle.std.specs.List.{AllByRecursion, flat_map}
+use Rattle.bits.specs.Forms.{record_bytes, InRange}
+use Rattle.yearfile.specs.Bytes.{laid_at}
 use Rattle.yearfile.proofs.lay.lay_all.Given as goal
 
+-- with the rest laid too, the buffer will be as it is to be
 abbrev pub invariant-loop-item : goal.invariant-loop-item
-invariant-loop-item g l = Laid (record_bytes g.T.Row.form) l.items l.at l.item-index l.end l.initial.buffer l.buffer
+invariant-loop-item g l =
+    let bytes = record_bytes g.T.Row.form in
+    let rest = drop l.item-index l.items in
+    record {
+      ranged : AllByRecursion (InRange g.T.Row.form) rest;
+      after : laid_at l.end (flat_map bytes rest) l.buffer ≡ laid_at l.at (flat_map bytes l.items) l.initial.buffer;
+      end : l.end + length (flat_map bytes rest) ≡ l.at + length (flat_map bytes l.items);
+    }
