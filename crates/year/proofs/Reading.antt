@@ -25,7 +25,7 @@ use Rattle.year.specs.Ranges.{Counted}
 use Rattle.year.specs.YearBytes.{Sound}
 use Rattle.year.specs.YearFile.{year_after, year_of, first_fault}
 use Rattle.yearfile.proofs.Telling.{length-chunks}
-use Rattle.yearfile.specs.File.{length_fault, told_after}
+use Rattle.yearfile.specs.File.{point_parts, element_parts, use_parts, length_fault, told_after}
 use Rattle.yearfile.specs.Told.{Told, a_point, an_element, a_use, in_order, first_told_fault, point_in, element_in}
 
 -- records told in order, each among those of its kind
@@ -37,13 +37,13 @@ told_apart h n (p ∷ ps) es us = ap (λ (d : YearData). year_data h (point_of p
 
 -- the records that a header announces say what the file says
 pub gathers : (h : Header) (rest : List ℕ) → gathered h (told_after h rest) ≡ year_after h rest
-gathers h rest = told_apart h 0 (first_chunks 15 h.points rest) (first_chunks 9 h.elements (drop (15 * h.points) rest)) (first_chunks 5 h.uses (drop (15 * h.points + 9 * h.elements) rest))
+gathers h rest = told_apart h 0 (point_parts h rest) (element_parts h rest) (use_parts h rest)
 
 pub counts : (h : Header) (rest : List ℕ) → Counted (year_after h rest)
 counts h rest = (
-  sym (length-map (first_chunks 15 h.points rest) point_of ∙ length-chunks 15 h.points rest),
-  sym (length-map (first_chunks 9 h.elements (drop (15 * h.points) rest)) element_of ∙ length-chunks 9 h.elements (drop (15 * h.points) rest)),
-  sym (length-map (first_chunks 5 h.uses (drop (15 * h.points + 9 * h.elements) rest)) use_of ∙ length-chunks 5 h.uses (drop (15 * h.points + 9 * h.elements) rest)),
+  sym (length-map (point_parts h rest) point_of ∙ length-chunks 15 h.points rest),
+  sym (length-map (element_parts h rest) element_of ∙ length-chunks 9 h.elements (drop (15 * h.points) rest)),
+  sym (length-map (use_parts h rest) use_of ∙ length-chunks 5 h.uses (drop (15 * h.points + 9 * h.elements) rest)),
 )
 
 -- the ranges of a header, by name
@@ -69,37 +69,8 @@ ranges h (k, near) = record {
   other = near.1;
 }
 
-abbrev IdentifierIn : Point → Type 0
-IdentifierIn p = (1 ≤ p.identifier) × (p.identifier ≤ 65535)
-
-abbrev RatingIn : Element → Type 0
-RatingIn e = (e.cost ≤ 10000000) × (1 ≤ e.rating) × (e.rating ≤ 10000000) × (e.peak ≤ 10000000)
-
-point_kept : (n : ℕ) (bs : List ℕ) → None ≡ point_fault n bs → IdentifierIn (point_of bs)
-unfolding record_fault record_of point_form values_in
-point_kept n bs h = (all_kept n 1 point_fields (values_in point_fields (bits bs)) (sym h)).0.1
-
-element_kept : (n : ℕ) (bs : List ℕ) → None ≡ element_fault n bs → RatingIn (element_of bs)
-unfolding record_fault record_of element_form values_in
-element_kept n bs h =
-    let k = all_kept n 1 element_fields (values_in element_fields (bits bs)) (sym h) in
-    (k.0.1.1, k.1.0.1.0, k.1.0.1.1, k.1.1.0.1.1)
-
--- every record that came without a fault keeps its ranges
-all_keep : (ts : List Told) → None ≡ first_told_fault ts → AllByRecursion IdentifierIn (flat_map point_in ts) × AllByRecursion RatingIn (flat_map element_in ts)
-all_keep [] h = (tt, tt)
-all_keep (a_point bs n ∷ ts) h =
-    let o = or_none (point_fault (n + 1) bs) _ h in
-    let r = all_keep ts o.1 in
-    ((point_kept (n + 1) bs o.0, r.0), r.1)
-all_keep (an_element bs n ∷ ts) h =
-    let o = or_none (element_fault (n + 1) bs) _ h in
-    let r = all_keep ts o.1 in
-    (r.0, (element_kept (n + 1) bs o.0, r.1))
-all_keep (a_use bs n ∷ ts) h = all_keep ts (or_none (use_fault (n + 1) bs) _ h).1
-
 -- a header that keeps its ranges announces few enough records
-few : (h : Header) (rest : List ℕ) → HeaderIn h → Few (year_after h rest)
+pub few : (h : Header) (rest : List ℕ) → HeaderIn h → Few (year_after h rest)
 few h rest in_range =
     let c = counts h rest in
     let r = ranges h in_range in
@@ -129,28 +100,3 @@ module _ {file : List ℕ} {h : Header} {rest : List ℕ} (so : Taken file h res
     fault_left =
         let w : None ≡ length_fault (header_of file) (drop 27 file) = rw (← so.header, ← so.after) so.whole in
         rw (e, so.header, so.after, ← so.fine, ← w)
-
--- a year that came out of a file without a fault is sound
-pub sound_after : (h : Header) (rest : List ℕ) → HeaderIn h → None ≡ first_told_fault (told_after h rest) → None ≡ together_fault (year_after h rest) → Sound (year_after h rest)
-sound_after h rest in_range fine agree =
-    let c = counts h rest in
-    let r = ranges h in_range in
-    let k = kept (year_after h rest) agree in
-    let a = all_keep (told_after h rest) fine in
-    let P : YearData → Type 0 = λ d. AllByRecursion IdentifierIn d.points × AllByRecursion RatingIn d.elements in
-    let b : P (year_after h rest) = subst P (gathers h rest) a in
-    record {
-      some = omega (arith, c.0, r.points.0);
-      few = few h rest in_range;
-      counted = c;
-      figures = (r.revenue, r.common, r.locational, r.other);
-      dated = λ _. r.year;
-      identified = λ i l. All-get_or IdentifierIn (year_after h rest).points i no_point l b.0;
-      rated = λ i l. All-get_or RatingIn (year_after h rest).elements i no_element l b.1;
-      distinct = k.distinct;
-      named = k.named;
-      rising = k.rising;
-      within = k.within;
-      used = k.used;
-      priced = k.priced;
-    }

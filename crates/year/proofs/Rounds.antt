@@ -2,7 +2,7 @@
 use Rattle.std.proofs.Common.{◌≡◌, ℕ, suc, ◌+◌, ◌-◌, ◌*◌, ◌%◌, ◌<◌, ◌≤◌, false, ltb, List, [], ◌++◌, map, length, get_or, take, drop, ℤ, pos, negsuc, nat_abs, Some, None, Option, sym, refl, ap, ◌∙◌, inl, inr, append-nil, arith, length-append}
 use Rattle.std.specs.List.{AllByRecursion, flat_map}
 use Rattle.std.specs.Simd.{first_chunks}
-use Rattle.std.proofs.ByRecursion.{All-from_get_or}
+use Rattle.std.proofs.ByRecursion.{All-get_or, All-from_get_or}
 use Rattle.std.proofs.lemmas.List.{take-append-drop, length-drop, length-take-le, drop_all, drop-drop, take_at, drop_at}
 use Rattle.std.proofs.lemmas.List.Sums.{get_or-le-sum_by}
 use Rattle.std.proofs.lemmas.Bool.Decides.{nat_tests}
@@ -10,7 +10,7 @@ use Rattle.agreement.specs.Agreement.{together_fault}
 use Rattle.agreement.specs.Data.{YearData}
 use Rattle.agreement.specs.Together.{no_point, no_element, no_use}
 use Rattle.agreement.specs.Totals.{drawn}
-use Rattle.agreement.proofs.Keeping.{Kept, or_none}
+use Rattle.agreement.proofs.Keeping.{Kept, or_none, kept}
 use Rattle.agreement.proofs.Sound.{sound}
 use Rattle.bits.specs.Forms.{record_of, record_fault, InRange}
 use Rattle.bits.specs.Layout.{signed, Keeps}
@@ -27,12 +27,13 @@ use Rattle.records.specs.declared.header.Header.{Header}
 use Rattle.records.specs.declared.network_use.NetworkUse.{NetworkUse}
 use Rattle.records.specs.declared.point.Point.{Point}
 use Rattle.records.specs.Laws.{element_lawful, header_lawful, point_lawful, use_lawful}
-use Rattle.year.proofs.Reading.{sound_after}
+use Rattle.year.proofs.Reading.{counts, few, ranges}
 use Rattle.year.specs.YearBytes.{year_bytes, Sound}
 use Rattle.year.specs.YearFile.{year_after, year_of, first_fault}
-use Rattle.yearfile.specs.File.{announced, length_fault, told_after}
+use Rattle.yearfile.specs.File.{point_parts, element_parts, use_parts, announced, length_fault, told_after}
 use Rattle.yearfile.specs.Told.{Told, a_point, an_element, a_use, numbered, first_told_fault}
-use Rattle.yearfile.proofs.Parting.{bytes_drop, bytes_take, none_told, told_none, length_all, parts_all, past_all, read_back, none_back, write_back}
+use Rattle.yearfile.proofs.Telling.{fine_told, told_fine}
+use Rattle.yearfile.proofs.Parting.{Fine, bytes_drop, bytes_take, length_all, parts_all, past_all, read_back, none_back, write_back}
 
 -- a number near zero, in two's complement, keeps its range
 signed_in : (z : ℤ) → nat_abs z ≤ 10000000000 → Keeps (signed 35 10000000000) (twos z)
@@ -145,44 +146,21 @@ module _ (d : YearData) (so : Sound d) where
   abbrev us : List NetworkUse
   us = d.uses
 
-  point_parts : first_chunks 15 h.points (body d) ≡ map point_bytes ps
-  unfolding point_form
-  point_parts = ap (λ (n : ℕ). first_chunks 15 n (body d)) so.counted.0 ∙ parts_all point_form ps (flat_map element_bytes es ++ flat_map use_bytes us)
-
-  past_points : drop (15 * h.points) (body d) ≡ flat_map element_bytes es ++ flat_map use_bytes us
-  unfolding point_form
-  past_points = ap (λ (n : ℕ). drop (15 * n) (body d)) so.counted.0 ∙ past_all point_form ps (flat_map element_bytes es ++ flat_map use_bytes us)
-
-  element_parts : first_chunks 9 h.elements (drop (15 * h.points) (body d)) ≡ map element_bytes es
-  unfolding element_form
-  element_parts =
-      ap (first_chunks 9 h.elements) past_points
-      ∙ (ap (λ (n : ℕ). first_chunks 9 n (flat_map element_bytes es ++ flat_map use_bytes us)) so.counted.1 ∙ parts_all element_form es (flat_map use_bytes us))
-
-  past_elements : drop (15 * h.points + 9 * h.elements) (body d) ≡ flat_map use_bytes us
-  unfolding element_form
-  past_elements =
-      sym (drop-drop (9 * h.elements) (15 * h.points) (body d))
-      ∙ (ap (drop (9 * h.elements)) past_points
-      ∙ (ap (λ (n : ℕ). drop (9 * n) (flat_map element_bytes es ++ flat_map use_bytes us)) so.counted.1 ∙ past_all element_form es (flat_map use_bytes us)))
-
-  use_parts : first_chunks 5 h.uses (drop (15 * h.points + 9 * h.elements) (body d)) ≡ map use_bytes us
-  unfolding use_form
-  use_parts =
-      ap (first_chunks 5 h.uses) past_elements
-      ∙ (ap (λ (n : ℕ). first_chunks 5 n (flat_map use_bytes us)) so.counted.2
-      ∙ (ap (first_chunks 5 (length us)) (sym (append-nil (flat_map use_bytes us))) ∙ parts_all use_form us []))
+  parts : (point_parts h (body d) ≡ map point_bytes ps) × ((element_parts h (body d) ≡ map element_bytes es) × (use_parts h (body d) ≡ map use_bytes us))
+  unfolding point_form element_form use_form
+  parts =
+      let p = flat_map element_bytes es ++ flat_map use_bytes us in
+      let u : first_chunks 5 (length us) (flat_map use_bytes us) ≡ map use_bytes us = rw append-nil at (parts_all use_form us []) in
+      rw (so.counted.0, so.counted.1, so.counted.2, ← drop-drop (9 * length es) (15 * length ps) (body d), past_all point_form ps p, past_all element_form es (flat_map use_bytes us))
+      (parts_all point_form ps p, (parts_all element_form es (flat_map use_bytes us), u))
 
   year_back : year_after h (body d) ≡ d
-  year_back = rw (point_parts, element_parts, use_parts, read_back point_form point_lawful ps (points_ranged d so), read_back element_form element_lawful es (elements_ranged d so), read_back use_form use_lawful us (uses_ranged d so))
+  year_back = rw (parts.0, parts.1.0, parts.1.1, read_back point_form point_lawful ps (points_ranged d so), read_back element_form element_lawful es (elements_ranged d so), read_back use_form use_lawful us (uses_ranged d so))
 
   told_back : first_told_fault (told_after h (body d)) ≡ None
   told_back =
-      rw (point_parts, element_parts, use_parts, ← append-nil {A = ℕ → Told} (map (λ b n. a_use b n) (map use_bytes us)))
-      (none_told a_point _ (map point_bytes ps) (none_back point_form point_lawful ps (points_ranged d so))
-      (none_told an_element _ (map element_bytes es) (none_back element_form element_lawful es (elements_ranged d so))
-      (none_told a_use [] (map use_bytes us) (none_back use_form use_lawful us (uses_ranged d so)) (λ n. refl)))
-      0)
+      rw (parts.0, parts.1.0, parts.1.1)
+      (fine_told 0 _ _ _ (none_back point_form point_lawful ps (points_ranged d so)) (none_back element_form element_lawful es (elements_ranged d so)) (none_back use_form use_lawful us (uses_ranged d so)))
 
   pub length-body : length (body d) ≡ announced h
   unfolding point_form element_form use_form
@@ -211,20 +189,19 @@ module _ (d : YearData) (so : Sound d) where
       let t : ltb (length (year_bytes d)) 27 ≡ false = grind (arith, nat_tests) in
       rw (t, f)
 
-  kept : Kept d
-  kept = record { distinct = so.distinct; named = so.named; rising = so.rising; within = so.within; used = so.used; priced = so.priced }
+  limits_kept : Kept d
+  limits_kept = record { distinct = so.distinct; named = so.named; rising = so.rising; within = so.within; used = so.used; priced = so.priced }
 
   -- what a sound year writes is read back as the same year, without a fault
   pub written_then_read : (None ≡ first_fault (year_bytes d)) × (year_of (year_bytes d) ≡ d)
   written_then_read =
-      let y : year_of (year_bytes d) ≡ d = ap (λ (x : Header). year_after x (drop 27 (year_bytes d))) header_back ∙ (ap (year_after h) after ∙ year_back) in
-      let l : length_fault (header_of (year_bytes d)) (drop 27 (year_bytes d)) ≡ None = ap (λ (x : Header). length_fault x (drop 27 (year_bytes d))) header_back ∙ (ap (length_fault h) after ∙ length_back) in
-      let t : first_told_fault (told_after (header_of (year_bytes d)) (drop 27 (year_bytes d))) ≡ None =
-      ap (λ (x : Header). first_told_fault (told_after x (drop 27 (year_bytes d)))) header_back ∙ (ap (λ (bs : List ℕ). first_told_fault (told_after h bs)) after ∙ told_back) in
-      let a : together_fault (year_of (year_bytes d)) ≡ None = ap together_fault y ∙ sound d so.some kept in
+      let y : year_of (year_bytes d) ≡ d = rw (header_back, after) year_back in
+      let l : length_fault (header_of (year_bytes d)) (drop 27 (year_bytes d)) ≡ None = rw (header_back, after) length_back in
+      let t : first_told_fault (told_after (header_of (year_bytes d)) (drop 27 (year_bytes d))) ≡ None = rw (header_back, after) told_back in
+      let a : together_fault (year_of (year_bytes d)) ≡ None = ap together_fault y ∙ sound d so.some limits_kept in
       (sym (rw (header_fine, l, t) a), y)
 
--- a file without a fault is what its year writes
+-- a file without a fault is what its year writes, and that year is sound
 module _ (file : List ℕ) (bytes : Bytes file) (fine : None ≡ first_fault file) where
   abbrev hd : Header
   hd = header_of file
@@ -238,84 +215,71 @@ module _ (file : List ℕ) (bytes : Bytes file) (fine : None ≡ first_fault fil
   abbrev last : List ℕ
   last = drop (15 * hd.points + 9 * hd.elements) rest
 
-  header_none : None ≡ header_fault file
-  header_none = (or_none (header_fault file) _ fine).0
+  nothing_wrong : (None ≡ header_fault file) × ((None ≡ length_fault hd rest) × ((None ≡ first_told_fault (told_after hd rest)) × (None ≡ together_fault (year_of file))))
+  nothing_wrong =
+      let a = or_none (header_fault file) _ fine in
+      let b = or_none (length_fault hd rest) _ a.1 in
+      (a.0, (b.0, or_none (first_told_fault (told_after hd rest)) _ b.1))
 
-  length_none : None ≡ length_fault hd rest
-  length_none = (or_none (length_fault hd rest) _ (or_none (header_fault file) _ fine).1).0
-
-  records_none : None ≡ first_told_fault (told_after hd rest)
-  records_none = (or_none (first_told_fault (told_after hd rest)) _ (or_none (length_fault hd rest) _ (or_none (header_fault file) _ fine).1).1).0
-
-  long : 27 ≤ length file
-  long = let n = header_none in grind (arith, nat_tests)
-
-  head_is : take 27 file ≡ header_bytes hd
+  header_read : InRange header_form hd × (take 27 file ≡ header_bytes hd)
   unfolding header_form
-  head_is =
-      let n = header_none in
-      let l = long in
+  header_read =
+      let n = nothing_wrong.0 in
+      let l : 27 ≤ length file = grind (arith, nat_tests) in
       let t : ltb (length file) 27 ≡ false = grind (arith, nat_tests) in
       let f : None ≡ record_fault header_form 0 (take 27 file) = rw t at n in
-      (read_written header_form header_lawful 0 (take 27 file) (length-take-le 27 file long) (bytes_take 27 file bytes) (sym f)).1
+      read_written header_form header_lawful 0 (take 27 file) (length-take-le 27 file l) (bytes_take 27 file bytes) (sym f)
 
   length_rest : length rest ≡ announced hd
-  length_rest = let n = length_none in grind (arith, nat_tests)
+  length_rest = let n = nothing_wrong.1.0 in grind (arith, nat_tests)
 
-  rest_bytes : Bytes rest
-  rest_bytes = bytes_drop 27 file bytes
+  parts_fine : Fine point_fault (point_parts hd rest) × (Fine element_fault (element_parts hd rest) × Fine use_fault (use_parts hd rest))
+  parts_fine = told_fine 0 (point_parts hd rest) (element_parts hd rest) (use_parts hd rest) nothing_wrong.1.1.0
 
-  points_none : AllByRecursion (λ b. (k : ℕ) × (None ≡ point_fault (k + 1) b)) (first_chunks 15 hd.points rest) × ((n : ℕ) × (None ≡ first_told_fault (numbered n (map (λ b n. an_element b n) (first_chunks 9 hd.elements mid) ++ map (λ b n. a_use b n) (first_chunks 5 hd.uses last)))))
-  points_none = told_none a_point _ 0 (first_chunks 15 hd.points rest) records_none
-
-  elements_none : AllByRecursion (λ b. (k : ℕ) × (None ≡ element_fault (k + 1) b)) (first_chunks 9 hd.elements mid) × ((n : ℕ) × (None ≡ first_told_fault (numbered n (map (λ b n. a_use b n) (first_chunks 5 hd.uses last)))))
-  elements_none = told_none an_element _ points_none.1.0 (first_chunks 9 hd.elements mid) points_none.1.1
-
-  uses_none : AllByRecursion (λ b. (k : ℕ) × (None ≡ use_fault (k + 1) b)) (first_chunks 5 hd.uses last)
-  uses_none =
-      let n = elements_none.1.1 ∙ ap (λ l. first_told_fault (numbered elements_none.1.0 l)) (sym (append-nil (map (λ b n. a_use b n) (first_chunks 5 hd.uses last)))) in
-      (told_none a_use [] elements_none.1.0 (first_chunks 5 hd.uses last) n).0
-
-  points_back : flat_map point_bytes (map point_of (first_chunks 15 hd.points rest)) ++ mid ≡ rest
+  points_read : AllByRecursion (InRange point_form) (map point_of (point_parts hd rest)) × (flat_map point_bytes (map point_of (point_parts hd rest)) ++ mid ≡ rest)
   unfolding point_form
-  points_back = write_back point_form point_lawful hd.points rest (omega (arith, length_rest)) rest_bytes points_none.0
+  points_read = write_back point_form point_lawful hd.points rest (omega (arith, length_rest)) (bytes_drop 27 file bytes) parts_fine.0
 
-  after_mid : drop (9 * hd.elements) mid ≡ last
-  after_mid = drop-drop (9 * hd.elements) (15 * hd.points) rest
-
-  elements_back : flat_map element_bytes (map element_of (first_chunks 9 hd.elements mid)) ++ last ≡ mid
+  elements_read : AllByRecursion (InRange element_form) (map element_of (element_parts hd rest)) × (flat_map element_bytes (map element_of (element_parts hd rest)) ++ last ≡ mid)
   unfolding element_form
-  elements_back =
+  elements_read =
       let l : 9 * hd.elements ≤ length mid = omega (arith, length_rest, length-drop (15 * hd.points) rest) in
-      ap (λ (bs : List ℕ). flat_map element_bytes (map element_of (first_chunks 9 hd.elements mid)) ++ bs) (sym after_mid)
-      ∙ write_back element_form element_lawful hd.elements mid l (bytes_drop (15 * hd.points) rest rest_bytes) elements_none.0
+      rw (← drop-drop (9 * hd.elements) (15 * hd.points) rest) (write_back element_form element_lawful hd.elements mid l (bytes_drop (15 * hd.points) rest (bytes_drop 27 file bytes)) parts_fine.1.0)
 
-  uses_back : flat_map use_bytes (map use_of (first_chunks 5 hd.uses last)) ≡ last
+  uses_read : flat_map use_bytes (map use_of (use_parts hd rest)) ≡ last
   unfolding use_form
-  uses_back =
+  uses_read =
       let n : length last ≡ 5 * hd.uses = omega (arith, length_rest, length-drop (15 * hd.points + 9 * hd.elements) rest) in
       let none : drop (5 * hd.uses) last ≡ [] = drop_all (5 * hd.uses) last (omega (arith, n)) in
-      let w = write_back use_form use_lawful hd.uses last (omega (arith, n)) (bytes_drop (15 * hd.points + 9 * hd.elements) rest rest_bytes) uses_none in
-      sym (append-nil _) ∙ (ap (λ (bs : List ℕ). flat_map use_bytes (map use_of (first_chunks 5 hd.uses last)) ++ bs) (sym none) ∙ w)
+      let w = (write_back use_form use_lawful hd.uses last (omega (arith, n)) (bytes_drop (15 * hd.points + 9 * hd.elements) rest (bytes_drop 27 file bytes)) parts_fine.1.1).1 in
+      rw append-nil at (rw none at w)
 
   pub read_then_written : year_bytes (year_of file) ≡ file
-  read_then_written = rw (uses_back, elements_back, points_back, ← head_is) (take-append-drop 27 file)
+  read_then_written = rw (uses_read, elements_read.1, points_read.1, ← header_read.1) (take-append-drop 27 file)
 
-  header_kept : HeaderIn hd
-  unfolding header_form
-  header_kept =
-      let n = header_none in
-      let l = long in
-      let t : ltb (length file) 27 ≡ false = grind (arith, nat_tests) in
-      let f : None ≡ record_fault header_form 0 (take 27 file) = rw t at n in
-      (read_written header_form header_lawful 0 (take 27 file) (length-take-le 27 file long) (bytes_take 27 file bytes) (sym f)).0
-
-  together_none : None ≡ together_fault (year_of file)
-  together_none = (or_none (first_told_fault (told_after hd rest)) _ (or_none (length_fault hd rest) _ (or_none (header_fault file) _ fine).1).1).1
-
-  -- and that year is sound
   pub sound_file : Sound (year_of file)
-  sound_file = sound_after hd rest header_kept records_none together_none
+  unfolding header_form point_form element_form
+  sound_file =
+      let c = counts hd rest in
+      let r = ranges hd header_read.0 in
+      let k = kept (year_of file) nothing_wrong.1.1.1 in
+      record {
+        some = omega (arith, c.0, r.points.0);
+        few = few hd rest header_read.0;
+        counted = c;
+        figures = (r.revenue, r.common, r.locational, r.other);
+        dated = λ _. r.year;
+        identified = λ i l. (All-get_or (InRange point_form) (year_of file).points i no_point l points_read.0).0.0.1;
+        rated = λ i l.
+          let e = (All-get_or (InRange element_form) (year_of file).elements i no_element l elements_read.0).0 in
+          (e.0.1.1, e.1.0.1.0, e.1.0.1.1, e.1.1.0.1.1);
+        distinct = k.distinct;
+        named = k.named;
+        rising = k.rising;
+        within = k.within;
+        used = k.used;
+        priced = k.priced;
+      }
 
 -- what a sound year writes is not refused
 pub never_refused : (file : List ℕ) (f : Fault) → Some f ≡ first_fault file → (d : YearData) → Sound d → file ≡ year_bytes d → ⊥

@@ -1,6 +1,5 @@
 -- What a year file says, and the first thing that is wrong with it.
-use Rattle.std.specs.Prelude.{ℕ, ◌+◌, ◌*◌, List, map, drop, Option}
-use Rattle.std.specs.Simd.{first_chunks}
+use Rattle.std.specs.Prelude.{ℕ, List, map, drop, Option}
 use Rattle.agreement.specs.Agreement.{together_fault}
 use Rattle.agreement.specs.Data.{YearData, year_data}
 use Rattle.bits.specs.Laid.{◌or_else◌}
@@ -10,16 +9,16 @@ use Rattle.records.specs.Headers.{header_of, header_fault}
 use Rattle.records.specs.Points.{point_of}
 use Rattle.records.specs.Uses.{use_of}
 use Rattle.records.specs.declared.header.Header.{Header}
-use Rattle.yearfile.specs.File.{length_fault, told_after}
+use Rattle.yearfile.specs.File.{point_parts, element_parts, use_parts, length_fault, told_after}
 use Rattle.yearfile.specs.Told.{first_told_fault}
 
--- the records that a header announces: points of 15 bytes, elements of 9, uses of 5
+-- the records that a header announces
 abbrev pub year_after : Header → List ℕ → YearData
 year_after h rest =
     year_data h
-    (map point_of (first_chunks 15 h.points rest))
-    (map element_of (first_chunks 9 h.elements (drop (15 * h.points) rest)))
-    (map use_of (first_chunks 5 h.uses (drop (15 * h.points + 9 * h.elements) rest)))
+    (map point_of (point_parts h rest))
+    (map element_of (element_parts h rest))
+    (map use_of (use_parts h rest))
 
 -- the year in a file
 abbrev pub year_of : List ℕ → YearData

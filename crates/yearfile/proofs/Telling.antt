@@ -1,10 +1,16 @@
--- The records of a file, cut into parts. Assumes nothing.
-use Rattle.std.proofs.Common.{◌≡◌, ℕ, zero, suc, ◌+◌, ◌*◌, List, length, take, drop, refl, ap, mul-suc, arith}
+-- The records of a file, cut into parts and told in their order. Assumes nothing.
+use Rattle.std.proofs.Common.{◌≡◌, ℕ, zero, suc, ◌+◌, ◌*◌, List, [], ◌∷◌, length, take, drop, Some, None, Option, refl, ap, mul-suc, arith}
 use Rattle.std.specs.Simd.{first_chunks}
 use Rattle.std.proofs.lemmas.List.{take-take, drop-take, drop-drop}
+use Rattle.bits.specs.Laid.{◌or_else◌}
+use Rattle.bits.specs.declared.fault.Fault.{Fault}
+use Rattle.records.specs.Elements.{element_fault}
+use Rattle.records.specs.Points.{point_fault}
+use Rattle.records.specs.Uses.{use_fault}
 use Rattle.records.specs.declared.header.Header.{Header}
+use Rattle.yearfile.proofs.Parting.{Fine, AlwaysFine}
 use Rattle.yearfile.specs.File.{told_after}
-use Rattle.yearfile.specs.Told.{in_order}
+use Rattle.yearfile.specs.Told.{in_order, first_told_fault}
 
 pub length-chunks : (size n : ℕ) (bs : List ℕ) → length (first_chunks size n bs) ≡ n
 length-chunks size zero bs = refl
@@ -29,3 +35,31 @@ module _ (h : Header) (rest front back mid last : List ℕ) (at past : ℕ) (p :
       let points = cut 15 h.points at m front rest p a c in
       let elements = cut 9 h.elements past n mid back r b d in
       rw (points, elements, s, e, q, a, b, drop-drop (9 * h.elements) (15 * h.points) rest)
+
+-- records in their order have no fault just where none of their parts has
+pub fine_told : (n : ℕ) (ps es us : List (List ℕ))
+    → AlwaysFine point_fault ps → AlwaysFine element_fault es → AlwaysFine use_fault us → first_told_fault (in_order n ps es us) ≡ None
+fine_told n [] [] [] p e u = refl
+fine_told n [] [] (x ∷ us) p e u = rw (u.0 n) (fine_told (n + 1) [] [] us p e u.1)
+fine_told n [] (x ∷ es) us p e u = rw (e.0 n) (fine_told (n + 1) [] es us p e.1 u)
+fine_told n (x ∷ ps) es us p e u = rw (p.0 n) (fine_told (n + 1) ps es us p.1 e u)
+
+or_none : (f g : Option Fault) → None ≡ (f or_else g) → (None ≡ f) × (None ≡ g)
+or_none None g h = (refl, h)
+or_none (Some f) g h = (h, grind arith)
+
+pub told_fine : (n : ℕ) (ps es us : List (List ℕ)) → None ≡ first_told_fault (in_order n ps es us)
+    → Fine point_fault ps × (Fine element_fault es × Fine use_fault us)
+told_fine n [] [] [] h = (tt, (tt, tt))
+told_fine n [] [] (x ∷ us) h =
+    let o = or_none (use_fault (n + 1) x) _ h in
+    let r = told_fine (n + 1) [] [] us o.1 in
+    (tt, (tt, ((n, o.0), r.1.1)))
+told_fine n [] (x ∷ es) us h =
+    let o = or_none (element_fault (n + 1) x) _ h in
+    let r = told_fine (n + 1) [] es us o.1 in
+    (tt, (((n, o.0), r.1.0), r.1.1))
+told_fine n (x ∷ ps) es us h =
+    let o = or_none (point_fault (n + 1) x) _ h in
+    let r = told_fine (n + 1) ps es us o.1 in
+    (((n, o.0), r.0), r.1)
