@@ -44,90 +44,51 @@ signed_in (negsuc n) h =
 
 module _ (d : YearData) (so : Sound d) where
   -- the header of a sound year, and each of its records, keeps its ranges
-  pub header_in : HeaderIn d.header
-  header_in =
+  pub header_ranged : InRange header_form d.header
+  unfolding header_form
+  header_ranged =
       let y = so.dated so.some in
       let c = so.counted in
       let w = so.few in
       let f = so.figures in
-      let t = so.within.0 in (
-        (
-          (refl, (omega arith, omega arith)),
-          (
-            (omega arith, (y.0, y.1)),
-            (
-              (omega (arith, c.0, w.0), (omega (arith, c.0, so.some), omega (arith, c.0, w.0))),
-              (
-                (omega (arith, c.1, w.1), (omega arith, omega (arith, c.1, w.1))),
-                (
-                  (omega (arith, c.2, w.2), (omega arith, omega (arith, c.2, w.2))),
-                  (
-                    (refl, (omega arith, omega arith)),
-                    (
-                      (omega (arith, f.0), (omega arith, f.0)),
-                      (
-                        (omega (arith, f.0, f.1), (omega arith, f.1)),
-                        (
-                          signed_in d.header.locational_residue f.2,
-                          (signed_in d.header.other_residue f.3, ((omega (arith, t), (omega arith, omega (arith, t))), tt)),
-                        ),
-                      ),
-                    ),
-                  ),
-                ),
-              ),
-            ),
-          ),
-        ),
-        (f.2, f.3),
-      )
+      let t = so.within.0 in
+      let l = signed_in d.header.locational_residue f.2 in
+      let o = signed_in d.header.other_residue f.3 in
+      let p = so.some in
+      grind arith
 
-  point_in : (k : ℕ) → k < length d.points → PointIn (get_or d.points k no_point)
-  point_in k l =
+  point_ranged : (k : ℕ) → k < length d.points → InRange point_form (get_or d.points k no_point)
+  unfolding point_form
+  point_ranged k l =
       let i = so.identified k l in
       let n = get_or-le-sum_by (λ (p : Point). p.entry_cost) d.points k no_point l in
       let x = get_or-le-sum_by (λ (p : Point). p.exit_cost) d.points k no_point l in
       let q = get_or-le-sum_by (λ (p : Point). p.contract_demand) d.points k no_point l in
       let e = get_or-le-sum_by (λ (p : Point). p.energy) d.points k no_point l in
       let w = so.within in
-      let a : (get_or d.points k no_point).entry_cost ≤ 16777215 = omega (arith, w.0) in
-      let b : (get_or d.points k no_point).exit_cost ≤ 16777215 = omega (arith, w.0) in
-      let c : (get_or d.points k no_point).contract_demand ≤ 16777215 = omega (arith, w.1) in
-      let f : (get_or d.points k no_point).energy ≤ 67108863 = omega (arith, w.2) in
-      ((omega (arith, i.1), i), ((omega (arith, a), (omega arith, a)), ((omega (arith, b), (omega arith, b)), ((omega (arith, c), (omega arith, c)), ((omega (arith, f), (omega arith, f)), ((refl, (omega arith, omega arith)), tt))))))
+      grind arith
 
-  element_in : (k : ℕ) → k < length d.elements → ElementIn (get_or d.elements k no_element)
-  element_in k l =
-      let r = so.rated k l in
-      ((omega (arith, r.0), (omega arith, r.0)), ((omega (arith, r.2), (r.1, r.2)), ((omega (arith, r.3), (omega arith, r.3)), tt)))
+  element_ranged : (k : ℕ) → k < length d.elements → InRange element_form (get_or d.elements k no_element)
+  unfolding element_form
+  element_ranged k l = let r = so.rated k l in grind arith
 
-  use_in : (k : ℕ) → k < length d.uses → UseIn (get_or d.uses k no_use)
-  use_in k l =
+  use_ranged : (k : ℕ) → k < length d.uses → InRange use_form (get_or d.uses k no_use)
+  unfolding use_form
+  use_ranged k l =
       let n = so.named k l in
       let w = so.few in
       let u = so.used (get_or d.uses k no_use).element n.0 in
-      let own : drawn (get_or d.uses k no_use).element (get_or d.uses k no_use) ≡ (get_or d.uses k no_use).demand = grind (arith, nat_tests) in
       let g = get_or-le-sum_by (drawn (get_or d.uses k no_use).element) d.uses k no_use l in
-      let a : (get_or d.uses k no_use).element ≤ 255 = omega (arith, n.0, w.1) in
-      let b : (get_or d.uses k no_use).point ≤ 63 = omega (arith, n.1, w.0) in
-      let c : (get_or d.uses k no_use).demand ≤ 16777215 = omega (arith, own, g, u) in
-      ((omega (arith, a), (omega arith, a)), ((omega (arith, b), (omega arith, b)), ((omega (arith, c), (omega arith, c)), ((refl, (omega arith, omega arith)), tt))))
-
-  pub header_ranged : InRange header_form d.header
-  unfolding header_form
-  header_ranged = header_in
+      grind (arith, nat_tests)
 
   pub points_ranged : AllByRecursion (InRange point_form) d.points
-  unfolding point_form
-  points_ranged = All-from_get_or (InRange point_form) d.points no_point (λ k l. (point_in k l, tt))
+  points_ranged = All-from_get_or (InRange point_form) d.points no_point point_ranged
 
   pub elements_ranged : AllByRecursion (InRange element_form) d.elements
-  unfolding element_form
-  elements_ranged = All-from_get_or (InRange element_form) d.elements no_element (λ k l. (element_in k l, tt))
+  elements_ranged = All-from_get_or (InRange element_form) d.elements no_element element_ranged
 
   pub uses_ranged : AllByRecursion (InRange use_form) d.uses
-  unfolding use_form
-  uses_ranged = All-from_get_or (InRange use_form) d.uses no_use (λ k l. (use_in k l, tt))
+  uses_ranged = All-from_get_or (InRange use_form) d.uses no_use use_ranged
 
 -- the records of a year without its header
 abbrev body : YearData → List ℕ
