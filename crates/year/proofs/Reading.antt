@@ -46,35 +46,9 @@ counts h rest = (
   sym (length-map (use_parts h rest) use_of ∙ length-chunks 5 h.uses (drop (15 * h.points + 9 * h.elements) rest)),
 )
 
--- the ranges of a header, by name
-pub record HeaderRanges (h : Header) : Type 0 where
-  pub year : (2000 ≤ h.year) × (h.year ≤ 2999)
-  pub points : (1 ≤ h.points) × (h.points ≤ 64)
-  pub elements : h.elements ≤ 256
-  pub uses : h.uses ≤ 4096
-  pub revenue : h.allowed_revenue ≤ 100000000000
-  pub common : h.common_operating_cost ≤ h.allowed_revenue
-  pub locational : nat_abs h.locational_residue ≤ 10000000000
-  pub other : nat_abs h.other_residue ≤ 10000000000
-
-pub ranges : (h : Header) → HeaderIn h → HeaderRanges h
-ranges h (k, near) = record {
-  year = k.1.0.1;
-  points = k.1.1.0.1;
-  elements = k.1.1.1.0.1.1;
-  uses = k.1.1.1.1.0.1.1;
-  revenue = k.1.1.1.1.1.1.0.1.1;
-  common = k.1.1.1.1.1.1.1.0.1.1;
-  locational = near.0;
-  other = near.1;
-}
-
 -- a header that keeps its ranges announces few enough records
 pub few : (h : Header) (rest : List ℕ) → HeaderIn h → Few (year_after h rest)
-few h rest in_range =
-    let c = counts h rest in
-    let r = ranges h in_range in
-    (omega (arith, c.0, r.points.1), omega (arith, c.1, r.elements), omega (arith, c.2, r.uses))
+few h rest in_range = let c = counts h rest in grind arith
 
 -- a file whose header and length have no fault, as it is taken apart
 pub record Taken (file : List ℕ) (h : Header) (rest : List ℕ) : Type 0 where

@@ -27,7 +27,7 @@ use Rattle.records.specs.declared.header.Header.{Header}
 use Rattle.records.specs.declared.network_use.NetworkUse.{NetworkUse}
 use Rattle.records.specs.declared.point.Point.{Point}
 use Rattle.records.specs.Laws.{element_lawful, header_lawful, point_lawful, use_lawful}
-use Rattle.year.proofs.Reading.{counts, few, ranges}
+use Rattle.year.proofs.Reading.{counts, few}
 use Rattle.year.specs.YearBytes.{year_bytes, Sound}
 use Rattle.year.specs.YearFile.{year_after, year_of, first_fault}
 use Rattle.yearfile.specs.File.{point_parts, element_parts, use_parts, announced, length_fault, told_after}
@@ -37,10 +37,8 @@ use Rattle.yearfile.proofs.Parting.{Fine, bytes_drop, bytes_take, length_all, pa
 
 -- a number near zero, in two's complement, keeps its range
 signed_in : (z : ℤ) → nat_abs z ≤ 10000000000 → Keeps (signed 35 10000000000) (twos z)
-signed_in (pos n) h = (let m : n % 34359738368 ≡ n = omega arith in rw m (grind (arith, nat_tests)), inl h)
-signed_in (negsuc n) h =
-    let m : (18446744073709551616 - suc n) % 34359738368 ≡ 34359738368 - suc n = omega arith in
-    (rw m (grind (arith, nat_tests)), inr (omega arith))
+signed_in (pos n) h = grind (arith, nat_tests)
+signed_in (negsuc n) h = grind (arith, nat_tests)
 
 module _ (d : YearData) (so : Sound d) where
   -- the header of a sound year, and each of its records, keeps its ranges
@@ -222,14 +220,14 @@ module _ (file : List ℕ) (bytes : Bytes file) (fine : None ≡ first_fault fil
   unfolding header_form point_form element_form
   sound_file =
       let c = counts hd rest in
-      let r = ranges hd header_read.0 in
+      let r = header_read.0 in
       let k = kept (year_of file) nothing_wrong.1.1.1 in
       record {
-        some = omega (arith, c.0, r.points.0);
+        some = grind arith;
         few = few hd rest header_read.0;
         counted = c;
-        figures = (r.revenue, r.common, r.locational, r.other);
-        dated = λ _. r.year;
+        figures = grind arith;
+        dated = grind arith;
         identified = λ i l. (All-get_or (InRange point_form) (year_of file).points i no_point l points_read.0).0.0.1;
         rated = λ i l.
           let e = (All-get_or (InRange element_form) (year_of file).elements i no_element l elements_read.0).0 in
