@@ -139,14 +139,13 @@ module _ (d : YearData) (so : Sound d) where
   after = drop_at (header_bytes h) (body d) 27 length-head
 
   header_back : header_of (year_bytes d) ≡ h
-  header_back = ap (record_of header_form) head ∙ (written_read header_form header_lawful 0 h (header_ranged d so)).1
+  header_back = rw head (written_read header_form header_lawful 0 h (header_ranged d so)).1
 
   header_fine : header_fault (year_bytes d) ≡ None
   header_fine =
-      let long : 27 ≤ length (year_bytes d) = simp length-append (omega (arith, length-head)) in
-      let f : record_fault header_form 0 (take 27 (year_bytes d)) ≡ None = ap (record_fault header_form 0) head ∙ (written_read header_form header_lawful 0 h (header_ranged d so)).0 in
-      let t : ltb (length (year_bytes d)) 27 ≡ false = grind (arith, nat_tests) in
-      rw (t, f)
+      let f : record_fault header_form 0 (take 27 (year_bytes d)) ≡ None = rw head (written_read header_form header_lawful 0 h (header_ranged d so)).0 in
+      let l : 27 ≤ length (year_bytes d) = simp length-append (omega (arith, length-head)) in
+      grind (arith, nat_tests)
 
   limits_kept : Kept d
   limits_kept = record { distinct = so.distinct; named = so.named; rising = so.rising; within = so.within; used = so.used; priced = so.priced }
@@ -185,9 +184,8 @@ module _ (file : List ℕ) (bytes : Bytes file) (fine : None ≡ first_fault fil
   header_read =
       let n = nothing_wrong.0 in
       let l : 27 ≤ length file = grind (arith, nat_tests) in
-      let t : ltb (length file) 27 ≡ false = grind (arith, nat_tests) in
-      let f : None ≡ record_fault header_form 0 (take 27 file) = rw t at n in
-      read_written header_form header_lawful 0 (take 27 file) (length-take-le 27 file l) (bytes_take 27 file bytes) (sym f)
+      let f : record_fault header_form 0 (take 27 file) ≡ None = grind (arith, nat_tests) in
+      read_written header_form header_lawful 0 (take 27 file) (length-take-le 27 file l) (bytes_take 27 file bytes) f
 
   length_rest : length rest ≡ announced hd
   length_rest = let n = nothing_wrong.1.0 in grind (arith, nat_tests)
@@ -228,10 +226,8 @@ module _ (file : List ℕ) (bytes : Bytes file) (fine : None ≡ first_fault fil
         counted = c;
         figures = grind arith;
         dated = grind arith;
-        identified = λ i l. (All-get_or (InRange point_form) (year_of file).points i no_point l points_read.0).0.0.1;
-        rated = λ i l.
-          let e = (All-get_or (InRange element_form) (year_of file).elements i no_element l elements_read.0).0 in
-          (e.0.1.1, e.1.0.1.0, e.1.0.1.1, e.1.1.0.1.1);
+        identified = λ i l. let p = All-get_or (InRange point_form) (year_of file).points i no_point l points_read.0 in grind arith;
+        rated = λ i l. let e = All-get_or (InRange element_form) (year_of file).elements i no_element l elements_read.0 in grind arith;
         distinct = k.distinct;
         named = k.named;
         rising = k.rising;

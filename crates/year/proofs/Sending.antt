@@ -43,18 +43,10 @@ module _ (d : YearData) (so : Sound d) where
 
   -- the buffer is too short, or has room for each part of the file
   pub short : (room : ℕ) → room < 27 + announced d.header → Some BufferShort ≡ write_refusal d room
-  short room h =
-      let l : room < length (year_bytes d) = omega (arith, length_file) in
-      let a : eqb (length d.points) 0 ≡ false = grind (arith, nat_tests, so.some) in
-      let t : ltb room (length (year_bytes d)) ≡ true = grind (arith, nat_tests) in
-      rw (a, t)
+  short room h = let some = so.some in grind (arith, nat_tests, length_file)
 
   pub fits : (room : ℕ) → 27 + announced d.header ≤ room → None ≡ write_refusal d room
-  fits room h =
-      let l : length (year_bytes d) ≤ room = omega (arith, length_file) in
-      let a : eqb (length d.points) 0 ≡ false = grind (arith, nat_tests, so.some) in
-      let t : ltb room (length (year_bytes d)) ≡ false = grind (arith, nat_tests) in
-      rw (a, t)
+  fits room h = let some = so.some in grind (arith, nat_tests, length_file)
 
   pub rooms : (room : ℕ) → 27 + announced d.header ≤ room
       → length (header_bytes d.header) + (length (flat_map point_bytes d.points) + (length (flat_map element_bytes d.elements) + length (flat_map use_bytes d.uses))) ≤ room
