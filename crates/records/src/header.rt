@@ -13,7 +13,7 @@ use bits::layout::Layout;
 use bits::lengths::leading;
 use bits::row::Row;
 
-#[derive(Clone, Copy, Debug, PartialEq, Eq)]
+#[derive(Clone, Copy, Debug, Default, PartialEq, Eq)]
 pub struct Header {
     pub year: u16,
     pub points: u16,

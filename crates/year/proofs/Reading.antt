@@ -1,32 +1,20 @@
 -- What the records of a file say, and what they keep where none has a fault. Assumes nothing.
-use Rattle.std.proofs.Common.{◌≡◌, ℕ, ◌+◌, ◌*◌, ◌≤◌, List, [], ◌∷◌, map, drop, nat_abs, None, sym, refl, ap, ◌∙◌, subst, arith}
-use Rattle.std.specs.List.{AllByRecursion, flat_map}
-use Rattle.std.specs.Simd.{first_chunks}
-use Rattle.std.proofs.ByRecursion.{All-get_or}
+use Rattle.std.proofs.Common.{◌≡◌, ℕ, ◌+◌, ◌*◌, List, [], ◌∷◌, map, drop, None, sym, refl, ap, ◌∙◌, subst, arith}
 use Rattle.std.proofs.lemmas.List.{length-map}
 use Rattle.agreement.specs.Agreement.{together_fault}
 use Rattle.agreement.specs.Data.{YearData, year_data, Few}
-use Rattle.agreement.specs.Together.{no_point, no_element}
-use Rattle.agreement.proofs.Keeping.{or_none, kept}
-use Rattle.bits.specs.Bits.{bits}
 use Rattle.bits.specs.Laid.{◌or_else◌}
-use Rattle.bits.specs.Forms.{record_of, record_fault}
-use Rattle.bits.specs.Layout.{values_in}
-use Rattle.bits.proofs.Laws.{all_kept}
-use Rattle.records.specs.Elements.{element_of, element_fault, element_form, element_fields}
+use Rattle.records.specs.Elements.{element_of}
 use Rattle.records.specs.Headers.{HeaderIn, header_of, header_fault}
-use Rattle.records.specs.Points.{point_of, point_fault, point_form, point_fields}
-use Rattle.records.specs.Uses.{use_of, use_fault}
-use Rattle.records.specs.declared.element.Element.{Element}
+use Rattle.records.specs.Points.{point_of}
+use Rattle.records.specs.Uses.{use_of}
 use Rattle.records.specs.declared.header.Header.{Header}
-use Rattle.records.specs.declared.point.Point.{Point}
 use Rattle.year.specs.Contents.{gathered}
 use Rattle.year.specs.Ranges.{Counted}
-use Rattle.year.specs.YearBytes.{Sound}
 use Rattle.year.specs.YearFile.{year_after, year_of, first_fault}
 use Rattle.yearfile.proofs.Telling.{length-chunks}
 use Rattle.yearfile.specs.File.{point_parts, element_parts, use_parts, length_fault, told_after}
-use Rattle.yearfile.specs.Told.{Told, a_point, an_element, a_use, in_order, first_told_fault, point_in, element_in}
+use Rattle.yearfile.specs.Told.{Told, in_order, first_told_fault}
 
 -- records told in order, each among those of its kind
 told_apart : (h : Header) (n : ℕ) (ps es us : List (List ℕ)) → gathered h (in_order n ps es us) ≡ year_data h (map point_of ps) (map element_of es) (map use_of us)

@@ -1,5 +1,5 @@
 -- A year and its file determine each other. Assumes nothing.
-use Rattle.std.proofs.Common.{◌≡◌, ℕ, suc, ◌+◌, ◌-◌, ◌*◌, ◌%◌, ◌<◌, ◌≤◌, false, ltb, List, [], ◌++◌, map, length, get_or, take, drop, ℤ, pos, negsuc, nat_abs, Some, None, Option, sym, refl, ap, ◌∙◌, inl, inr, append-nil, arith, length-append}
+use Rattle.std.proofs.Common.{◌≡◌, ℕ, ◌+◌, ◌*◌, ◌<◌, ◌≤◌, List, [], ◌++◌, map, length, get_or, take, drop, ℤ, pos, negsuc, nat_abs, Some, None, Option, sym, ap, ◌∙◌, append-nil, arith, length-append}
 use Rattle.std.specs.List.{AllByRecursion, flat_map}
 use Rattle.std.specs.Simd.{first_chunks}
 use Rattle.std.proofs.ByRecursion.{All-get_or, All-from_get_or}
@@ -12,16 +12,16 @@ use Rattle.agreement.specs.Together.{no_point, no_element, no_use}
 use Rattle.agreement.specs.Totals.{drawn}
 use Rattle.agreement.proofs.Keeping.{Kept, or_none, kept}
 use Rattle.agreement.proofs.Sound.{sound}
-use Rattle.bits.specs.Forms.{record_of, record_fault, InRange}
+use Rattle.bits.specs.Forms.{record_fault, InRange}
 use Rattle.bits.specs.Layout.{signed, Keeps}
 use Rattle.bits.specs.Signs.{twos}
 use Rattle.bits.specs.declared.fault.Fault.{Fault}
 use Rattle.bits.proofs.Trips.{length_record, written_read, read_written}
 use Rattle.bits.proofs.Digits.{Bytes}
-use Rattle.records.specs.Elements.{ElementIn, element_bytes, element_fault, element_form, element_of}
-use Rattle.records.specs.Headers.{HeaderIn, header_bytes, header_fault, header_form, header_of}
-use Rattle.records.specs.Points.{PointIn, point_bytes, point_fault, point_form, point_of}
-use Rattle.records.specs.Uses.{UseIn, use_bytes, use_fault, use_form, use_of}
+use Rattle.records.specs.Elements.{element_bytes, element_fault, element_form, element_of}
+use Rattle.records.specs.Headers.{header_bytes, header_fault, header_form, header_of}
+use Rattle.records.specs.Points.{point_bytes, point_fault, point_form, point_of}
+use Rattle.records.specs.Uses.{use_bytes, use_fault, use_form, use_of}
 use Rattle.records.specs.declared.element.Element.{Element}
 use Rattle.records.specs.declared.header.Header.{Header}
 use Rattle.records.specs.declared.network_use.NetworkUse.{NetworkUse}
@@ -31,7 +31,7 @@ use Rattle.year.proofs.Reading.{counts, few}
 use Rattle.year.specs.YearBytes.{year_bytes, Sound}
 use Rattle.year.specs.YearFile.{year_after, year_of, first_fault}
 use Rattle.yearfile.specs.File.{point_parts, element_parts, use_parts, announced, length_fault, told_after}
-use Rattle.yearfile.specs.Told.{Told, a_point, an_element, a_use, numbered, first_told_fault}
+use Rattle.yearfile.specs.Told.{first_told_fault}
 use Rattle.yearfile.proofs.Telling.{fine_told, told_fine}
 use Rattle.yearfile.proofs.Parting.{Fine, bytes_drop, bytes_take, length_all, parts_all, past_all, read_back, none_back, write_back}
 

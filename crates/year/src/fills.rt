@@ -26,17 +26,7 @@ impl Lists {
         ensures { IfOk result (λ l. data_of l ≡ empty_year) }
     {
         Ok(Lists {
-            header: Header {
-                year: 0,
-                points: 0,
-                elements: 0,
-                uses: 0,
-                allowed_revenue: 0,
-                common_operating_cost: 0,
-                locational_residue: 0,
-                other_residue: 0,
-                common_cost: 0,
-            },
+            header: Header::default(),
             points: Vec::with_capacity(heap, 64)?,
             elements: Vec::with_capacity(heap, 256)?,
             uses: Vec::with_capacity(heap, 4096)?,
@@ -88,11 +78,6 @@ impl Lists {
         requires { Few (data_of self.now) }
         ensures { result_err result ≡ together_fault (data_of self.now) }
     {
-        check(
-            &self.header,
-            self.points.as_slice(),
-            self.elements.as_slice(),
-            self.uses.as_slice(),
-        )
+        check(&self.header, &self.points, &self.elements, &self.uses)
     }
 }

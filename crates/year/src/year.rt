@@ -8,6 +8,7 @@ use crate::lists::Lists;
 
 #[derive(Drop)]
 pub struct Year {
+    // The empty year is lists without records, and no None, so that their room stays.
     pub(crate) held: Lists,
     // Where the next file is taken in, until it is found to be sound.
     pub(crate) draft: Lists,

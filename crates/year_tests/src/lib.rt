@@ -6,6 +6,7 @@
 mod tests {
     use bits::fault::Fault;
     use bits::refusal::Refusal;
+    use bits::row::Row;
     use records::element::Element;
     use records::header::Header;
     use records::network_use::NetworkUse;
@@ -27,10 +28,9 @@ mod tests {
     // The worked file with some bytes changed.
     fn changed(changes: &[(usize, u8)]) -> [u8; 91] {
         let mut file = *WORKED;
-        for change in changes {
-            let (at, byte) = *change;
-            if at < 91 {
-                file[at] = byte;
+        for &(at, byte) in changes {
+            if let Some(place) = file.get_mut(at) {
+                *place = byte;
             }
         }
         file
@@ -312,54 +312,65 @@ mod tests {
         Ok(())
     }
 
+    // Adds a record to a file.
+    fn add<T: Row<N, M>, const N: usize, const M: usize>(
+        file: &mut Vec<u8>,
+        record: &T,
+    ) -> Result<(), Fail> {
+        let mut bytes = [0; M];
+        record.write(&mut bytes, 0)?;
+        file.extend_from_slice(&bytes)?;
+        Ok(())
+    }
+
     // The file of the largest year, with every total at its limit.
     fn largest(heap: Global) -> Result<Vec<u8>, Fail> {
-        let mut head = [0u8; 27];
-        let mut element = [0u8; 9];
         let mut file = Vec::new(heap);
-        Header {
-            year: 2999,
-            points: 64,
-            elements: 256,
-            uses: 4096,
-            allowed_revenue: 100_000_000_000,
-            common_operating_cost: 100_000_000_000,
-            locational_residue: -10_000_000_000,
-            other_residue: 10_000_000_000,
-            common_cost: 64,
+        add(
+            &mut file,
+            &Header {
+                year: 2999,
+                points: 64,
+                elements: 256,
+                uses: 4096,
+                allowed_revenue: 100_000_000_000,
+                common_operating_cost: 100_000_000_000,
+                locational_residue: -10_000_000_000,
+                other_residue: 10_000_000_000,
+                common_cost: 64,
+            },
+        )?;
+        for p in 0..64 {
+            add(
+                &mut file,
+                &Point {
+                    identifier: 65_535 - p,
+                    entry_cost: 78_125,
+                    exit_cost: 0,
+                    contract_demand: 156_250,
+                    energy: 781_250,
+                },
+            )?;
         }
-        .write(&mut head)?;
-        file.extend_from_slice(&head)?;
-        for p in 0..64u16 {
-            let mut point = [0u8; 15];
-            Point {
-                identifier: 65_535 - p,
-                entry_cost: 78_125,
-                exit_cost: 0,
-                contract_demand: 156_250,
-                energy: 781_250,
-            }
-            .write(&mut point, 0)?;
-            file.extend_from_slice(&point)?;
+        for _ in 0..256 {
+            add(
+                &mut file,
+                &Element {
+                    cost: 19_531,
+                    rating: 10_000_000,
+                    peak: 10_000_000,
+                },
+            )?;
         }
-        Element {
-            cost: 19_531,
-            rating: 10_000_000,
-            peak: 10_000_000,
-        }
-        .write(&mut element, 0)?;
-        for _ in 0..256u16 {
-            file.extend_from_slice(&element)?;
-        }
-        for u in 0..4096u16 {
-            let mut network_use = [0u8; 5];
-            NetworkUse {
-                element: u / 16,
-                point: u % 16,
-                demand: 625_000,
-            }
-            .write(&mut network_use, 0)?;
-            file.extend_from_slice(&network_use)?;
+        for u in 0..4096 {
+            add(
+                &mut file,
+                &NetworkUse {
+                    element: u / 16,
+                    point: u % 16,
+                    demand: 625_000,
+                },
+            )?;
         }
         Ok(file)
     }

@@ -1,7 +1,7 @@
 -- Bytes laid one after another. Assumes nothing.
-use Rattle.std.proofs.Common.{◌≡◌, ℕ, ◌+◌, ◌<◌, ◌≤◌, List, [], ◌∷◌, ◌++◌, length, get_or, take, drop, Some, None, Option, Ok, Err, Result, sym, refl, ap, ◌∙◌, append_assoc, add-zero, arith, length-append}
+use Rattle.std.proofs.Common.{◌≡◌, ℕ, ◌+◌, ◌<◌, ◌≤◌, List, ◌∷◌, ◌++◌, length, get_or, take, drop, Some, None, Option, Ok, Err, Result, sym, refl, ap, ◌∙◌, append_assoc, arith, length-append}
 use Rattle.std.specs.Result.{IsOk, result_err}
-use Rattle.std.proofs.lemmas.List.{take-append-drop, drop_more, length-take-le, drop-drop, take_at, drop_at}
+use Rattle.std.proofs.lemmas.List.{drop_more, length-take-le, drop-drop, take_at, drop_at}
 use Rattle.std.proofs.lemmas.Bool.Decides.{nat_tests}
 use Rattle.bits.specs.Forms.{Form, record_refusal, InRange}
 use Rattle.bits.specs.Laid.{◌or_else◌, room_fault}

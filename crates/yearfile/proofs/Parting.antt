@@ -1,5 +1,5 @@
 -- Records of one kind, written one after another and taken apart again. Assumes nothing.
-use Rattle.std.proofs.Common.{◌≡◌, ℕ, zero, suc, ◌+◌, ◌*◌, ◌≤◌, List, [], ◌∷◌, ◌++◌, map, length, take, drop, None, Option, sym, refl, ap, ◌∙◌, append_assoc, mul-zero, mul-suc, arith, length-append}
+use Rattle.std.proofs.Common.{◌≡◌, ℕ, zero, suc, ◌+◌, ◌*◌, ◌≤◌, List, [], ◌∷◌, ◌++◌, map, length, take, drop, None, Option, sym, refl, append_assoc, mul-zero, mul-suc, arith, length-append}
 use Rattle.std.specs.List.{AllByRecursion, flat_map}
 use Rattle.std.specs.Simd.{first_chunks}
 use Rattle.std.proofs.lemmas.List.{take-append-drop, get_or-drop, length-take, places, length-take-le, length-drop, drop-drop, take_at, drop_at}
