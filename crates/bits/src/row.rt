@@ -21,7 +21,7 @@ pub trait Row<const N: usize, const M: usize> {
         ensures value { result ≡ form.values self.now }
         ensures limits { Kept form result → form.limits self.now };
 
-    // The record with values that keep their ranges.
+    // The record with values that keep their ranges, so that no cast to the size of a field loses anything.
     fn named(values: &[u64; N]) -> Self
         requires { Kept form values.now }
         ensures { result ≡ form.named values.now };
