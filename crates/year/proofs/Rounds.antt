@@ -1,5 +1,5 @@
 -- A year and its file determine each other. Assumes nothing.
-use Rattle.std.proofs.Common.{◌≡◌, ℕ, ◌+◌, ◌*◌, ◌<◌, ◌≤◌, List, [], ◌++◌, map, length, get_or, take, drop, ℤ, pos, negsuc, nat_abs, Some, None, Option, sym, ap, ◌∙◌, append-nil, arith, length-append}
+use Rattle.std.proofs.Common.{◌≡◌, ℕ, ◌+◌, ◌*◌, ◌<◌, ◌≤◌, List, [], ◌++◌, map, length, get_or, take, drop, ℤ, pos, negsuc, nat_abs, Some, None, Option, sym, ap, ◌∙◌, append-nil, arith, rules, length-append}
 use Rattle.std.specs.List.{AllByRecursion, flat_map}
 use Rattle.std.specs.Simd.{first_chunks}
 use Rattle.std.proofs.ByRecursion.{All-get_or, All-from_get_or}
@@ -148,7 +148,7 @@ module _ (d : YearData) (so : Sound d) where
       grind (arith, nat_tests)
 
   limits_kept : Kept d
-  limits_kept = record { distinct = so.distinct; named = so.named; rising = so.rising; within = so.within; used = so.used; priced = so.priced }
+  limits_kept = search rules
 
   -- what a sound year writes is read back as the same year, without a fault
   pub written_then_read : (None ≡ first_fault (year_bytes d)) × (year_of (year_bytes d) ≡ d)

@@ -1,5 +1,5 @@
 -- A year's file laid into a buffer part by part. Assumes nothing.
-use Rattle.std.proofs.Common.{◌≡◌, ℕ, ◌+◌, ◌<◌, ◌≤◌, List, ◌++◌, length, drop, Some, None, ap, ◌∙◌, zero-add, arith, length-append}
+use Rattle.std.proofs.Common.{◌≡◌, ℕ, ◌+◌, ◌<◌, ◌≤◌, List, ◌++◌, length, drop, Some, None, ap, ◌∙◌, zero-add, arith, rules, length-append}
 use Rattle.std.specs.List.{flat_map}
 use Rattle.std.proofs.lemmas.Bool.Decides.{nat_tests}
 use Rattle.agreement.specs.Data.{YearData}
@@ -19,23 +19,7 @@ use Rattle.yearfile.proofs.Laying.{laid_more}
 
 -- a checked year with a point is sound
 pub sound_of : (y : FilledYear) → Sound (contents y.year.now)
-sound_of filled =
-    let y = filled.year.now in
-    record {
-      some = filled.pointed;
-      few = y.few;
-      counted = y.counted;
-      figures = y.figures;
-      dated = y.dated;
-      identified = y.identified;
-      rated = y.rated;
-      distinct = y.distinct;
-      named = y.named;
-      rising = y.rising;
-      within = y.within;
-      used = y.used;
-      priced = y.priced;
-    }
+sound_of filled = let y = filled.year.now in let some = filled.pointed in search rules
 
 module _ (d : YearData) (so : Sound d) where
   length_file : length (year_bytes d) ≡ 27 + announced d.header

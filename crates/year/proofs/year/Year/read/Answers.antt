@@ -1,9 +1,10 @@
-use Rattle.std.proofs.Common.{sym, ap, ◌∙◌, subst, arith}
+use Rattle.std.proofs.Common.{sym, ap, ◌∙◌, subst, arith, rules}
 use Rattle.agreement.specs.Agreement.{together_fault}
 use Rattle.bits.proofs.Digits.{Bytes}
 use Rattle.year.proofs.Rounds.{written_then_read, read_then_written, sound_file, never_refused}
 use Rattle.year.proofs.year.Year.read.Goals as goal
 use Rattle.year.specs.Contents.{data_of}
+use Rattle.year.specs.Ranges.{Blank}
 use Rattle.year.specs.YearBytes.{Sound}
 use Rattle.year.specs.YearFile.{year_of}
 use Rattle.year.specs.declared.lists.Lists.{Lists}
@@ -20,21 +21,8 @@ invariant_of-self-2 c =
     let fine = c.in_ok-check.ensures ∙ (ap together_fault c.in_ok-fill.ensures.filled ∙ c.in_ok-fill.ensures.apart) in
     let so = sound_file c.args.file.now (λ i. (c.type_inv.file i).fits) fine in
     let t = subst (λ (x : Lists). Sound (data_of x)) (sym c.swap.ensures.x_after) (rw c.in_ok-fill.ensures.filled so) in
-    record {
-      few = t.few;
-      counted = t.counted;
-      figures = t.figures;
-      dated = t.dated;
-      identified = t.identified;
-      rated = t.rated;
-      distinct = t.distinct;
-      named = t.named;
-      rising = t.rising;
-      within = t.within;
-      used = t.used;
-      priced = t.priced;
-      blank = λ z. absurd (omega (arith, t.some));
-    }
+    let blank : Blank (data_of c.swap.new.x) = λ z. absurd (omega (arith, t.some)) in
+    search rules
 
 pub returns-clause-form : goal.returns-clause-form
 returns-clause-form c =
