@@ -15,6 +15,7 @@ pub const MAX_FIGURE: u64 = MAX_POOL;
 #[derive(Drop)]
 pub struct Discount<M> {
     method: M,
+    // By place; an array, since nothing is taken from the heap.
     figures: [u64; 64],
 }
 

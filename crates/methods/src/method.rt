@@ -42,6 +42,7 @@ pub trait Method {
         if pool > MAX_POOL {
             return Err(Refusal::ArgumentOutOfRange);
         }
+        // Past the last point an amount is refused, and stands for zero.
         Ok(array::from_fn(|place| self.amount(pool, place).unwrap_or(0)))
     }
 

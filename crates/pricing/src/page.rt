@@ -41,7 +41,7 @@ impl fmt::Display for PointCharges {
 pub struct Page {
     pub year: u16,
     pub points: usize,
-    // By place; all zero past the last point.
+    // By place; an array, since nothing is taken from the heap, and all zero past the last point.
     pub charges: [PointCharges; 64],
     pub locational: LocationalPrices,
     // What is left for the non-locational revenue; below zero, nothing is charged for it.
