@@ -1,13 +1,14 @@
 -- A part that is added to the amounts of all points, use by use. Assumes nothing.
 use Rattle.std.proofs.Common.{◌≡◌, ℕ, zero, suc, ◌+◌, ◌<◌, ◌≤◌, List, [], ◌∷◌, length, get_or, set, sum, sym, refl, ap, subst, ⊎_elim, le_of_suc-le-suc, not-suc-le-zero, arith, length-set, get_or-set_other, get_or-set_same}
 use Rattle.std.specs.List.{All}
-use Rattle.std.proofs.lemmas.Bool.{cases_eq}
+use Rattle.std.proofs.lemmas.Bool.Decides.{nat_tests}
+use Rattle.std.proofs.lemmas.Grind.{common_steps}
 use Rattle.records.specs.declared.network_use.NetworkUse.{NetworkUse}
 use Rattle.standard.specs.Allotted.{demands, of_part}
 use Rattle.standard.specs.Exchange.{part_has}
 use Rattle.standard.specs.Order.{Placed}
 use Rattle.standard.specs.Portions.{Portioned, portions}
-use Rattle.standard.proofs.Portioning.{its_share, has, has_own, has_other, own_shares}
+use Rattle.standard.proofs.Portioning.{its_share, has, has_more, own_shares}
 
 -- the amounts so far, and the portions of the uses to come
 pub record Added (entry : List ℕ) (part : ℕ) (us : List NetworkUse) (amounts : List ℕ) (rest : List (Portioned NetworkUse)) : Type 0 where
@@ -41,7 +42,7 @@ module _ (entry : List ℕ) (part : ℕ) (us : List NetworkUse) (amounts : List 
 
     -- the amount with the share is no more than the amount with the whole part
     pub share_fits : get_or amounts q.item.point 0 + its_share part q ≤ get_or entry q.item.point 0 + part
-    share_fits = omega (arith, so.each q.item.point inside, ap (has part q.item.point) e, has_own part q.item.point q qs refl, part_has part q.item.point us)
+    share_fits = grind (arith, nat_tests, so.each q.item.point inside, ap (has part q.item.point) e, has_more part q.item.point q qs, part_has part q.item.point us)
 
     added_more : Added entry part us (set amounts q.item.point (get_or amounts q.item.point 0 + its_share part q)) qs
     added_more =
@@ -51,10 +52,7 @@ module _ (entry : List ℕ) (part : ℕ) (us : List NetworkUse) (amounts : List 
         record {
           long = simp length-set so.long;
           placed = λ k d h. all_placed (suc k) d (omega arith);
-          each = λ p h. ⊎_elim
-              (λ same. omega (arith, so.each p h, ap (has part p) e, has_own part p q qs same, ap (λ j. get_or (set amounts point sums) j 0) (sym same), get_or-set_same amounts point sums 0 room, ap (λ j. get_or amounts j 0) same))
-              (λ other. omega (arith, so.each p h, ap (has part p) e, has_other part p q qs other, get_or-set_other amounts point p sums 0 (λ z. other (sym z))))
-              (cases_eq point p);
+          each = λ p h. grind (arith, nat_tests, common_steps, so.each p h, ap (has part p) e, has_more part p q qs);
         }
 
     -- at a place and a share that were reckoned

@@ -1,7 +1,6 @@
 -- An array that holds what every point has is the padded list of amounts. Assumes nothing.
 use Rattle.std.proofs.Common.{◌≡◌, ℕ, ◌<◌, ◌≤◌, List, length, get_or, sym, ◌∙◌, ⊎_elim, arith}
 use Rattle.std.proofs.lemmas.List.{ext_get_or, get_or_past}
-use Rattle.std.proofs.lemmas.Bool.{cases_lt}
 use Rattle.methods.specs.Asked.{padded}
 use Rattle.methods.specs.Padding.{padded_at, padded-length}
 use Rattle.records.specs.declared.network_use.NetworkUse.{NetworkUse}
@@ -13,12 +12,7 @@ use Rattle.standard.proofs.Placing.{past_points}
 module _ (points : ℕ) (uses : List NetworkUse) (parts : List ℕ) (few : points ≤ 64) (placed : Placed points uses) where
   -- past the last point there are no amounts, and no uses
   entry : (k : ℕ) → get_or (amounts_of points uses parts) k 0 ≡ of_parts uses k 0 parts
-  entry k = ⊎_elim
-      (λ h. amount_at points uses parts k h)
-      (λ h. let none = past_points points uses k 0 parts h placed in
-      let past : length (amounts_of points uses parts) ≤ k = omega (arith, amounts_length points uses parts) in
-      get_or_past (amounts_of points uses parts) k 0 past ∙ sym none)
-      (cases_lt k points)
+  entry k = grind (arith, amount_at points uses parts k, past_points points uses k 0 parts, get_or_past (amounts_of points uses parts) k 0, amounts_length points uses parts, placed)
 
   pub filled_is : (amounts : List ℕ) → length amounts ≡ 64 → ((p : ℕ) → p < 64 → get_or amounts p 0 ≡ of_parts uses p 0 parts) → amounts ≡ padded (amounts_of points uses parts)
   filled_is amounts long each =

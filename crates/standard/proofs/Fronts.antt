@@ -3,6 +3,7 @@ use Rattle.std.proofs.Common.{◌≡◌, ℕ, suc, ◌+◌, ◌<◌, ◌≤◌, 
 use Rattle.std.specs.List.{prefix_len}
 use Rattle.std.proofs.lemmas.List.Sums.{sum_by-cons}
 use Rattle.std.proofs.lemmas.Bool.{eq-eqb, ne_eqb, cases_eq, cond-true, cond-false}
+use Rattle.std.proofs.lemmas.Bool.Decides.{nat_tests}
 use Rattle.agreement.specs.Limits.{Rising}
 use Rattle.agreement.specs.Together.{no_use}
 use Rattle.agreement.specs.Totals.{drawn, total_use}
@@ -10,10 +11,10 @@ use Rattle.records.specs.declared.network_use.NetworkUse.{NetworkUse}
 use Rattle.standard.specs.Allotted.{demands, uses_of}
 use Rattle.standard.specs.Order.{own, Rises}
 
-pub uses_yes : (e : ℕ) (u : NetworkUse) (us : List NetworkUse) → u.element ≡ e → uses_of e (u ∷ us) ≡ u ∷ uses_of e us
+uses_yes : (e : ℕ) (u : NetworkUse) (us : List NetworkUse) → u.element ≡ e → uses_of e (u ∷ us) ≡ u ∷ uses_of e us
 uses_yes e u us h = cond-true _ _ _ (eq-eqb u.element e h)
 
-pub uses_no : (e : ℕ) (u : NetworkUse) (us : List NetworkUse) → (u.element ≡ e → ⊥) → uses_of e (u ∷ us) ≡ uses_of e us
+uses_no : (e : ℕ) (u : NetworkUse) (us : List NetworkUse) → (u.element ≡ e → ⊥) → uses_of e (u ∷ us) ≡ uses_of e us
 uses_no e u us h = cond-false _ _ _ (ne_eqb u.element e h)
 
 lead_yes : (e : ℕ) (u : NetworkUse) (us : List NetworkUse) → u.element ≡ e → prefix_len (own e) (u ∷ us) ≡ suc (prefix_len (own e) us)
@@ -28,10 +29,10 @@ rises_from e f (u ∷ us) h r = (omega arith, r.1)
 
 none_before : (e f : ℕ) (us : List NetworkUse) → e < f → Rises f us → uses_of e us ≡ []
 none_before e f [] h r = refl
-none_before e f (u ∷ us) h r = uses_no e u us (λ same. omega arith) ∙ none_before e u.element us (omega arith) r.1
+none_before e f (u ∷ us) h r = grind (arith, nat_tests, none_before e u.element us (omega arith) r.1)
 
 -- the front holds all uses of the element
-pub own-front : (e : ℕ) (us : List NetworkUse) → Rises e us → take (prefix_len (own e) us) us ≡ uses_of e us
+own-front : (e : ℕ) (us : List NetworkUse) → Rises e us → take (prefix_len (own e) us) us ≡ uses_of e us
 own-front e [] r = refl
 own-front e (u ∷ us) r = ⊎_elim
     (λ same. ap (λ n. take n (u ∷ us)) (lead_yes e u us same)
@@ -62,15 +63,7 @@ own_later e f (u ∷ us) h = ⊎_elim
 -- what the uses of an element come to
 pub demand-sum : (e : ℕ) (us : List NetworkUse) → sum (demands (uses_of e us)) ≡ total_use e us
 demand-sum e [] = refl
-demand-sum e (u ∷ us) =
-    let more = sum_by-cons (drawn e) u us in
-    ⊎_elim
-    (λ same. let one : drawn e u ≡ u.demand = cond-true _ _ _ (eq-eqb u.element e same) in
-    ap (λ vs. sum (demands vs)) (uses_yes e u us same)
-    ∙ omega (arith, sum_by-cons (λ (n : ℕ). n) u.demand (demands (uses_of e us)), demand-sum e us))
-    (λ other. let one : drawn e u ≡ 0 = cond-false _ _ _ (ne_eqb u.element e other) in
-    ap (λ vs. sum (demands vs)) (uses_no e u us other) ∙ omega (arith, demand-sum e us))
-    (cases_eq u.element e)
+demand-sum e (u ∷ us) = grind (arith, nat_tests, sum_by-cons (drawn e) u us, sum_by-cons (λ (n : ℕ). n) u.demand (demands (uses_of e us)), demand-sum e us)
 
 -- uses that rise by element and point rise by element
 rises_on : (u : NetworkUse) (us : List NetworkUse) → Rising (u ∷ us) → ((k : ℕ) → k < length (u ∷ us) → (get_or (u ∷ us) k no_use).point < 65536) → Rises u.element us

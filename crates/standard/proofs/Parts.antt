@@ -2,7 +2,7 @@
 use Rattle.std.proofs.Common.{◌≡◌, ℕ, ◌+◌, ◌<◌, ◌≤◌, List, [], ◌∷◌, map, length, sum, sum_by, get_or, Some, None, Ok, Err, sym, refl, ap, ◌∙◌, ⊎_elim, arith}
 use Rattle.std.specs.List.{slice_get}
 use Rattle.std.specs.Option.{option_map}
-use Rattle.std.proofs.lemmas.Bool.{le-ltb, and_right, cond-false, cases_lt}
+use Rattle.std.proofs.lemmas.Bool.Decides.{nat_tests}
 use Rattle.std.proofs.lemmas.Option.{slice_get-map, slice_get_within, slice_get-get_or, get_or_from_slice_get}
 use Rattle.std.proofs.lemmas.List.Sums.{sum_by-cons}
 use Rattle.agreement.specs.Together.{no_element}
@@ -53,18 +53,11 @@ module _ (rule : ℕ → Element → ℕ) (pool : ℕ) where
     pub part_there : (x : Portioned Element) → slice_get (portions (λ (e : Element). e.cost) (sum (costs es)) 0 es) place ≡ Some x → pool ≤ 100000000000
         → asked (length es) pool place (parts_of rule es pool) ≡ Ok (reduced_part rule pool x)
     part_there x here small =
-        let xs = portions (λ (e : Element). e.cost) (sum (costs es)) 0 es in
-        let inside : place < length es = omega (arith, slice_get_within xs place x here, length-portions (λ (e : Element). e.cost) (sum (costs es)) 0 es) in
-        asked-within (length es) pool place (parts_of rule es pool) small inside
-        ∙ ap (λ ys. Ok (get_or ys place 0)) (parts_are es)
-        ∙ ap Ok (get_or_from_slice_get (map (reduced_part rule pool) xs) place (reduced_part rule pool x) 0 (slice_get-map (reduced_part rule pool) xs place ∙ ap (option_map (reduced_part rule pool)) here))
+        let long = length-portions (λ (e : Element). e.cost) (sum (costs es)) 0 es in
+        grind (arith, nat_tests, parts_are es, slice_get_within, slice_get-map (reduced_part rule pool) (portions (λ (e : Element). e.cost) (sum (costs es)) 0 es) place, get_or_from_slice_get (map (reduced_part rule pool) (portions (λ (e : Element). e.cost) (sum (costs es)) 0 es)) place (reduced_part rule pool x) 0)
 
     -- past the last element there is none
     pub part_past : slice_get (portions (λ (e : Element). e.cost) (sum (costs es)) 0 es) place ≡ None → asked (length es) pool place (parts_of rule es pool) ≡ Err ArgumentOutOfRange
     part_past none =
-        let xs = portions (λ (e : Element). e.cost) (sum (costs es)) 0 es in
-        let past : length es ≤ place = ⊎_elim
-        (λ h. let z : None ≡ Some (get_or xs place first) = sym none ∙ slice_get-get_or xs place first (omega (arith, h, length-portions (λ (e : Element). e.cost) (sum (costs es)) 0 es)) in cc)
-        (λ h. h)
-        (cases_lt place (length es)) in
-        cond-false _ _ _ (and_right _ _ (le-ltb place (length es) past))
+        let long = length-portions (λ (e : Element). e.cost) (sum (costs es)) 0 es in
+        grind (arith, nat_tests, slice_get-get_or (portions (λ (e : Element). e.cost) (sum (costs es)) 0 es) place first)

@@ -1,6 +1,6 @@
 -- Uses by points that are there. Assumes nothing.
 use Rattle.std.proofs.Common.{◌≡◌, ℕ, suc, ◌+◌, ◌<◌, ◌≤◌, eqb, List, [], ◌∷◌, refl, arith}
-use Rattle.std.proofs.lemmas.Bool.{ne_eqb, cond-false}
+use Rattle.std.proofs.lemmas.Bool.Decides.{nat_tests}
 use Rattle.std.proofs.lemmas.List.Elements.{All-filter}
 use Rattle.money.specs.Sharing.{shares_of}
 use Rattle.records.specs.declared.network_use.NetworkUse.{NetworkUse}
@@ -12,8 +12,7 @@ module _ (n : ℕ) where
   past_point : (p : ℕ) (us : List NetworkUse) (shares : List ℕ) → n ≤ p → Placed n us → at_point p us shares ≡ 0
   past_point p [] shares h so = refl
   past_point p (u ∷ us) [] h so = refl
-  past_point p (u ∷ us) (x ∷ xs) h so =
-      omega (arith, cond-false (eqb u.point p) x 0 (ne_eqb u.point p (λ e. omega (arith, so 0 u (omega arith)))), past_point p us xs h (λ k d g. so (suc k) d (omega arith)))
+  past_point p (u ∷ us) (x ∷ xs) h so = grind (arith, nat_tests, so 0 u (omega arith), past_point p us xs h (λ k d g. so (suc k) d (omega arith)))
 
   pub past_points : (uses : List NetworkUse) (p e : ℕ) (parts : List ℕ) → n ≤ p → Placed n uses → of_parts uses p e parts ≡ 0
   past_points uses p e [] h so = refl

@@ -1,7 +1,7 @@
 -- What a point has of a part, as the sum over the portions of its uses. Assumes nothing.
-use Rattle.std.proofs.Common.{◌≡◌, ℕ, ◌+◌, ◌*◌, ◌/◌, ◌≤◌, Bool, eqb, List, [], ◌∷◌, filter, sum, sum_by, refl, ap, ◌∙◌, ⊎_elim, mul_comm, mul-le-mul_left, arith}
+use Rattle.std.proofs.Common.{◌≡◌, ℕ, ◌+◌, ◌*◌, ◌/◌, ◌≤◌, Bool, cond, eqb, List, [], ◌∷◌, filter, sum, sum_by, refl, ap, ◌∙◌, ⊎_elim, mul_comm, mul-le-mul_left, arith}
 use Rattle.std.proofs.Math.Nat.{div-le_of_le-mul}
-use Rattle.std.proofs.lemmas.Bool.{eq-eqb, ne_eqb, cases_eq, cond-true, cond-false}
+use Rattle.std.proofs.lemmas.Bool.Decides.{nat_tests}
 use Rattle.std.proofs.lemmas.List.Sums.{sum_by-cons}
 use Rattle.money.specs.Sharing.{share_of, shares_after, shares_of}
 use Rattle.records.specs.declared.network_use.NetworkUse.{NetworkUse}
@@ -24,24 +24,13 @@ its_share part q = share_of part q.before q.item.demand q.total
 abbrev pub has : ℕ → ℕ → List (Portioned NetworkUse) → ℕ
 has part p qs = sum_by (its_share part) (filter (by_point p) qs)
 
-module _ (part p : ℕ) (q : Portioned NetworkUse) (qs : List (Portioned NetworkUse)) where
-  pub has_own : q.item.point ≡ p → has part p (q ∷ qs) ≡ its_share part q + has part p qs
-  has_own h = ap (sum_by (its_share part)) (cond-true (by_point p q) (q ∷ filter (by_point p) qs) (filter (by_point p) qs) (eq-eqb q.item.point p h)) ∙ sum_by-cons (its_share part) q (filter (by_point p) qs)
-
-  pub has_other : (q.item.point ≡ p → ⊥) → has part p (q ∷ qs) ≡ has part p qs
-  has_other h = ap (sum_by (its_share part)) (cond-false (by_point p q) (q ∷ filter (by_point p) qs) (filter (by_point p) qs) (ne_eqb q.item.point p h))
+pub has_more : (part p : ℕ) (q : Portioned NetworkUse) (qs : List (Portioned NetworkUse)) → has part p (q ∷ qs) ≡ cond (by_point p q) (its_share part q) 0 + has part p qs
+has_more part p q qs = grind (arith, nat_tests, sum_by-cons (its_share part) q (filter (by_point p) qs))
 
 module _ (part p : ℕ) where
   after : (total before : ℕ) (us : List NetworkUse) → has part p (portions (λ (u : NetworkUse). u.demand) total before us) ≡ at_point p us (shares_after part total before (demands us))
   after total before [] = refl
-  after total before (u ∷ us) =
-      let q : Portioned NetworkUse = record { item = u; before = before; total = total } in
-      let qs = portions (λ (v : NetworkUse). v.demand) total (before + u.demand) us in
-      let rest = after total (before + u.demand) us in
-      ⊎_elim
-      (λ same. omega (arith, has_own part p q qs same, cond-true (by_point p q) (its_share part q) 0 (eq-eqb u.point p same), rest))
-      (λ other. omega (arith, has_other part p q qs other, cond-false (by_point p q) (its_share part q) 0 (ne_eqb u.point p other), rest))
-      (cases_eq u.point p)
+  after total before (u ∷ us) = omega (arith, has_more part p (record { item = u; before = before; total = total }) (portions (λ (v : NetworkUse). v.demand) total (before + u.demand) us), after total (before + u.demand) us)
 
   pub own_shares : (us : List NetworkUse) → has part p (portions (λ (u : NetworkUse). u.demand) (sum (demands us)) 0 us) ≡ of_part part p us
   unfolding shares_of
