@@ -1,7 +1,6 @@
 -- The parts of the elements, by their portions of the costs. Assumes nothing.
-use Rattle.std.proofs.Common.{◌≡◌, ℕ, ◌+◌, ◌<◌, ◌≤◌, List, [], ◌∷◌, map, length, sum, sum_by, get_or, Some, None, Ok, Err, sym, refl, ap, ◌∙◌, ⊎_elim, arith}
+use Rattle.std.proofs.Common.{◌≡◌, ℕ, ◌+◌, ◌≤◌, List, [], ◌∷◌, map, length, sum, sum_by, Some, None, Ok, Err, sym, refl, ap, ◌∙◌, arith}
 use Rattle.std.specs.List.{slice_get}
-use Rattle.std.specs.Option.{option_map}
 use Rattle.std.proofs.lemmas.Bool.Decides.{nat_tests}
 use Rattle.std.proofs.lemmas.Option.{slice_get-map, slice_get_within, slice_get-get_or, get_or_from_slice_get}
 use Rattle.std.proofs.lemmas.List.Sums.{sum_by-cons}
@@ -9,7 +8,6 @@ use Rattle.agreement.specs.Together.{no_element}
 use Rattle.agreement.specs.Data.{YearData}
 use Rattle.bits.specs.declared.refusal.Refusal.TheVariants.{ArgumentOutOfRange}
 use Rattle.methods.specs.Asked.{asked}
-use Rattle.methods.proofs.Answering.{asked-within}
 use Rattle.money.specs.Sharing.{shares_after, shares_of}
 use Rattle.records.specs.declared.element.Element.{Element}
 use Rattle.records.specs.declared.network_use.NetworkUse.{NetworkUse}

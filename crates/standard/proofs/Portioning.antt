@@ -1,5 +1,7 @@
 -- What a point has of a part, as the sum over the portions of its uses. Assumes nothing.
-use Rattle.std.proofs.Common.{◌≡◌, ℕ, ◌+◌, ◌*◌, ◌/◌, ◌≤◌, Bool, cond, eqb, List, [], ◌∷◌, filter, sum, sum_by, refl, ap, ◌∙◌, ⊎_elim, mul_comm, mul-le-mul_left, arith}
+use Rattle.std.proofs.Common.{◌≡◌, ℕ, suc, ◌+◌, ◌*◌, ◌/◌, ◌≤◌, Bool, cond, eqb, List, [], ◌∷◌, filter, sum, sum_by, refl, mul_comm, mul-le-mul_left, arith}
+use Rattle.std.specs.Prelude.{◌≢◌}
+use Rattle.std.specs.List.{All}
 use Rattle.std.proofs.Math.Nat.{div-le_of_le-mul}
 use Rattle.std.proofs.lemmas.Bool.Decides.{nat_tests}
 use Rattle.std.proofs.lemmas.List.Sums.{sum_by-cons}
@@ -35,3 +37,12 @@ module _ (part p : ℕ) where
   pub own_shares : (us : List NetworkUse) → has part p (portions (λ (u : NetworkUse). u.demand) (sum (demands us)) 0 us) ≡ of_part part p us
   unfolding shares_of
   own_shares us = after (sum (demands us)) 0 us
+
+  -- a point that uses nothing has nothing
+  unused : (us : List NetworkUse) (shares : List ℕ) → All (λ (u : NetworkUse). u.point ≢ p) us → at_point p us shares ≡ 0
+  unused [] shares none = refl
+  unused (u ∷ us) [] none = refl
+  unused (u ∷ us) (x ∷ xs) none = grind (arith, nat_tests, none 0 u (omega arith), unused us xs (λ k d h. none (suc k) d (omega arith)))
+
+  pub part_unused : (us : List NetworkUse) → All (λ (u : NetworkUse). u.point ≢ p) us → of_part part p us ≡ 0
+  part_unused us none = unused us (shares_of part (demands us)) none

@@ -51,17 +51,23 @@ impl<'a> Iterator for Segments<'a> {
 }
 
 impl<'a> Segment<'a> {
-    // What the point at a place has of the element's part. Only its own uses cost divisions; the others are added up.
+    // What the point at a place has of the element's part. Only its own uses cost divisions; beside them the others are
+    // added up.
     pub(crate) fn amount<R: Rule>(&self, rule: &R, pool: Pool, place: usize) -> u64
         ensures { result ≡ of_segment (R.reduced rule.now) pool.cents place (loaded self.now) }
     {
-        Portions::new(self.uses)
+        let uses = self.uses;
+        if !uses.iter().any(|used| usize::from(used.point) == place) {
+            return 0;
+        }
+        Portions::new(uses)
             .filter(|used| usize::from(used.item.point) == place)
             .map(|used| used.share(self.element.part(rule, pool)))
             .sum()
     }
 
-    // Adds to the amount of each point what it has of the element's part.
+    // Adds to the amount of each point what it has of the element's part. It is one share for each use; an array made place
+    // by place would want a walk for each point.
     pub(crate) fn add_amounts<R: Rule>(&self, rule: &R, pool: Pool, amounts: &mut [u64; 64])
         requires room { (p : ℕ) → p < 64 → slice_index amounts.old p ≤ 100000000000 }
         ensures { (p : ℕ) → p < 64 → slice_index amounts.new p ≡ slice_index amounts.old p + of_segment (R.reduced rule.now) pool.cents p (loaded self.now) }

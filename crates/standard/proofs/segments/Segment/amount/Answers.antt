@@ -1,4 +1,7 @@
-use Rattle.std.proofs.Common.{rules, tests, filter, sum, ◌∙◌, arith}
+use Rattle.std.proofs.Common.{rules, tests, filter, sum, sym, ◌∙◌, arith}
+use Rattle.std.specs.Prelude.{◌≢◌}
+use Rattle.std.specs.List.{All}
+use Rattle.std.proofs.iter.runs.Made.{chains}
 use Rattle.std.proofs.lemmas.Iterator.{YieldsList-from_map}
 use Rattle.std.proofs.lemmas.Iterator.Consumers.{YieldsList-at, YieldsList-from_first, YieldsList-from_filter, sum_by_from_yields_List, fits_by_from_yields_list}
 use Rattle.money.specs.Sharing.{share_of}
@@ -6,7 +9,7 @@ use Rattle.records.specs.declared.network_use.NetworkUse.{NetworkUse}
 use Rattle.standard.specs.Allotted.{demands}
 use Rattle.standard.specs.Exchange.{part_has}
 use Rattle.standard.specs.Portions.{portions}
-use Rattle.standard.proofs.Portioning.{share_le, own_shares, its_share, by_point}
+use Rattle.standard.proofs.Portioning.{part_unused, share_le, own_shares, its_share, by_point}
 use Rattle.standard.proofs.segments.Segment.amount.Goals as goal
 
 pub sum-requires-clause-fits : goal.sum-requires-clause-fits
@@ -35,3 +38,8 @@ returns g c =
     (YieldsList-at c.filter.ensures.source (YieldsList-from_first _ _ _ c.new.ensures)) c.filter.ensures.closure (λ x r q k. search (rules, tests))))
     c.map.ensures.closure (λ x r q k. search rules))
     ∙ own_shares part p us
+
+pub returns-then-not-any : goal.returns-then-not-any
+returns-then-not-any g c =
+    let none : All (λ (u : NetworkUse). u.point ≢ c.args.place) c.args.self.now.uses.now = λ k d h. search (rules, chains) in
+    sym (part_unused _ c.args.place c.args.self.now.uses.now none)
