@@ -5,4 +5,5 @@ pub mod Pricing
 pub mod Located
 pub mod Pages
 pub mod Rows
+pub mod Printed
 pub mod Laws

@@ -1,4 +1,6 @@
 // What the page of a year says.
+ghost use Rattle.std.specs.Prelude.{Some};
+ghost use Rattle.pricing.specs.Printed.{charges_text, page_text};
 
 use std::fmt;
 
@@ -23,6 +25,8 @@ pub struct PointCharges {
 
 // In decimal, on one line: the identifier and the five charges.
 impl fmt::Display for PointCharges {
+    ghost output = { λ c. Some (charges_text c) };
+
     fn fmt<W: fmt::Write>(&self, f: &mut fmt::Formatter<W>) -> fmt::Result {
         write!(
             f,
@@ -54,6 +58,8 @@ pub struct Page {
 
 // In decimal: the year and the number of points, a line for each point, and what both spreads left.
 impl fmt::Display for Page {
+    ghost output = { λ p. Some (page_text p) };
+
     fn fmt<W: fmt::Write>(&self, f: &mut fmt::Formatter<W>) -> fmt::Result {
         writeln!(f, "{} {}", self.year, self.points)?;
         for charges in self.charges.iter().take(self.points) {
