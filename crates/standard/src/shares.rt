@@ -58,11 +58,8 @@ impl<'a, T: Weighs> Iterator for Portions<'a, T> {
             before: self.before,
             total: self.total,
         };
-        *self = Portions {
-            items,
-            before: self.before + item.weight(),
-            total: self.total,
-        };
+        self.items = items;
+        self.before += item.weight();
         Some(portion)
     }
 }

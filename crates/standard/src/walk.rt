@@ -1,5 +1,5 @@
 // A walk over the elements of a year and their uses, and what points have of the parts of the elements.
-ghost use Rattle.std.specs.Prelude.{◌≡◌, ℕ, ◌+◌, ◌<◌, ◌≤◌, slice_index};
+ghost use Rattle.std.specs.Prelude.{◌≡◌, ℕ, ◌+◌, ◌<◌, ◌≤◌, length, slice_index};
 ghost use Rattle.std.specs.List.{prefix_len};
 ghost use Rattle.std.specs.Iterator.{YieldsFirstBy, item_count};
 ghost use Rattle.standard.specs.Order.{own};
@@ -15,7 +15,8 @@ use year::year::Year;
 
 // How many uses at the front are of the element at a place.
 fn own_uses(uses: &[NetworkUse], element: usize) -> usize
-    ensures { result ≡ prefix_len (own element) uses.now }
+    ensures is { result ≡ prefix_len (own element) uses.now }
+    ensures fits { result ≤ length uses.now }
 {
     uses.iter()
         .take_while(|used| usize::from(used.element) == element)

@@ -1,6 +1,5 @@
 use Rattle.std.proofs.Common.{rules, ◌≡◌, ℕ, suc, ◌+◌, ◌≤◌, List, length, drop, sum, sym, ap, ◌∙◌, subst, arith}
 use Rattle.std.specs.List.{prefix_len}
-use Rattle.std.proofs.lemmas.List.Sums.{prefix_len-le-length}
 use Rattle.records.specs.declared.element.Element.{Element}
 use Rattle.records.specs.declared.network_use.NetworkUse.{NetworkUse}
 use Rattle.standard.specs.Allotted.{demands, uses_of}
@@ -16,9 +15,6 @@ invariant_of-self c =
     let none : length t.items.now ≡ 0 = sym (length-portions (λ (e : Element). e.cost) t.total t.before t.items.now) ∙ ap length c.in_err-element.ensures.steps.1 in
     record { few = omega arith; rises = c.args.self.now.rises; light = λ e h g. absurd (omega arith); placed = c.args.self.now.placed }
 
-pub split_at-requires : goal.split_at-requires
-split_at-requires c = omega (arith, c.own_uses.ensures, prefix_len-le-length (own c.args.self.now.place) c.args.self.now.uses.now)
-
 pub invariant_of-self-2 : goal.invariant_of-self-2
 invariant_of-self-2 c =
     let s = c.args.self.now in
@@ -26,7 +22,7 @@ invariant_of-self-2 c =
     let us = s.uses.now in
     let cost : Element → ℕ = λ e. e.cost in
     let some : length s.elements.items.now ≡ suc (length t.items.now) = sym (length-portions cost s.elements.total s.elements.before s.elements.items.now) ∙ ap length c.in_ok-element.ensures.steps ∙ ap suc (length-portions cost t.total t.before t.items.now) in
-    let back : c.split_at.result.1.now ≡ drop (prefix_len (own s.place) us) us = c.split_at.ensures.back ∙ ap (λ n. drop n us) c.own_uses.ensures in
+    let back : c.split_at.result.1.now ≡ drop (prefix_len (own s.place) us) us = c.split_at.ensures.back ∙ ap (λ n. drop n us) c.own_uses.ensures.is in
     let later : (e : ℕ) → s.place + 1 ≤ e → uses_of e us ≡ uses_of e c.split_at.result.1.now = λ e h. own_later s.place e us (omega arith) ∙ ap (uses_of e) (sym back) in
     record {
       few = omega arith;
@@ -38,7 +34,7 @@ invariant_of-self-2 c =
 pub invariant_of-result : goal.invariant_of-result
 invariant_of-result c =
     let s = c.args.self.now in
-    let front : c.split_at.result.0.now ≡ uses_of s.place s.uses.now = front_is s.place s.uses.now s.rises c.own_uses.result c.own_uses.ensures c.split_at.result.0.now c.split_at.ensures.front in
+    let front : c.split_at.result.0.now ≡ uses_of s.place s.uses.now = front_is s.place s.uses.now s.rises c.own_uses.result c.own_uses.ensures.is c.split_at.result.0.now c.split_at.ensures.front in
     let some = ap length c.in_ok-element.ensures.steps in
     record {
       light = subst (λ (us : List NetworkUse). sum (demands us) ≤ 10000000) (sym front) (s.light s.place (omega arith) (omega (arith, length-portions (λ (e : Element). e.cost) s.elements.total s.elements.before s.elements.items.now)));
@@ -50,8 +46,8 @@ returns-clause-steps c =
     let s = c.args.self.now in
     let t = c.next.new.self in
     let us = s.uses.now in
-    let front : c.split_at.result.0.now ≡ uses_of s.place us = front_is s.place us s.rises c.own_uses.result c.own_uses.ensures c.split_at.result.0.now c.split_at.ensures.front in
-    let back : c.split_at.result.1.now ≡ drop (prefix_len (own s.place) us) us = c.split_at.ensures.back ∙ ap (λ n. drop n us) c.own_uses.ensures in
+    let front : c.split_at.result.0.now ≡ uses_of s.place us = front_is s.place us s.rises c.own_uses.result c.own_uses.ensures.is c.split_at.result.0.now c.split_at.ensures.front in
+    let back : c.split_at.result.1.now ≡ drop (prefix_len (own s.place) us) us = c.split_at.ensures.back ∙ ap (λ n. drop n us) c.own_uses.ensures.is in
     segments-step s.place _ _ (portions (λ (e : Element). e.cost) t.total t.before t.items.now) us c.split_at.result.0.now c.split_at.result.1.now c.in_ok-element.ensures.steps front back
 
 pub returns-clause-goes : goal.returns-clause-goes
