@@ -10,7 +10,7 @@ use Rattle.agreement.specs.Agreement.{together_fault}
 use Rattle.agreement.specs.Data.{YearData}
 use Rattle.agreement.specs.Together.{no_point, no_element, no_use}
 use Rattle.agreement.specs.Totals.{drawn}
-use Rattle.agreement.proofs.Keeping.{Kept, or_none, kept}
+use Rattle.agreement.proofs.Keeping.{Kept, kept}
 use Rattle.agreement.proofs.Sound.{sound}
 use Rattle.bits.specs.Forms.{record_fault, InRange}
 use Rattle.bits.specs.Layout.{signed, Keeps}
@@ -174,10 +174,7 @@ module _ (file : List ℕ) (bytes : Bytes file) (fine : None ≡ first_fault fil
   last = drop (15 * hd.points + 9 * hd.elements) rest
 
   nothing_wrong : (None ≡ header_fault file) × ((None ≡ length_fault hd rest) × ((None ≡ first_told_fault (told_after hd rest)) × (None ≡ together_fault (year_of file))))
-  nothing_wrong =
-      let a = or_none (header_fault file) _ fine in
-      let b = or_none (length_fault hd rest) _ a.1 in
-      (a.0, (b.0, or_none (first_told_fault (told_after hd rest)) _ b.1))
+  nothing_wrong = (grind arith, (grind arith, (grind arith, grind arith)))
 
   header_read : InRange header_form hd × (take 27 file ≡ header_bytes hd)
   unfolding header_form

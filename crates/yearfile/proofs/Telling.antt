@@ -44,22 +44,9 @@ fine_told n [] [] (x ∷ us) p e u = rw (u.0 n) (fine_told (n + 1) [] [] us p e 
 fine_told n [] (x ∷ es) us p e u = rw (e.0 n) (fine_told (n + 1) [] es us p e.1 u)
 fine_told n (x ∷ ps) es us p e u = rw (p.0 n) (fine_told (n + 1) ps es us p.1 e u)
 
-or_none : (f g : Option Fault) → None ≡ (f or_else g) → (None ≡ f) × (None ≡ g)
-or_none None g h = (refl, h)
-or_none (Some f) g h = (h, grind arith)
-
 pub told_fine : (n : ℕ) (ps es us : List (List ℕ)) → None ≡ first_told_fault (in_order n ps es us)
     → Fine point_fault ps × (Fine element_fault es × Fine use_fault us)
 told_fine n [] [] [] h = (tt, (tt, tt))
-told_fine n [] [] (x ∷ us) h =
-    let o = or_none (use_fault (n + 1) x) _ h in
-    let r = told_fine (n + 1) [] [] us o.1 in
-    (tt, (tt, ((n, o.0), r.1.1)))
-told_fine n [] (x ∷ es) us h =
-    let o = or_none (element_fault (n + 1) x) _ h in
-    let r = told_fine (n + 1) [] es us o.1 in
-    (tt, (((n, o.0), r.1.0), r.1.1))
-told_fine n (x ∷ ps) es us h =
-    let o = or_none (point_fault (n + 1) x) _ h in
-    let r = told_fine (n + 1) ps es us o.1 in
-    (((n, o.0), r.0), r.1)
+told_fine n [] [] (x ∷ us) h = let r = told_fine (n + 1) [] [] us (grind arith) in (tt, (tt, ((n, grind arith), r.1.1)))
+told_fine n [] (x ∷ es) us h = let r = told_fine (n + 1) [] es us (grind arith) in (tt, (((n, grind arith), r.1.0), r.1.1))
+told_fine n (x ∷ ps) es us h = let r = told_fine (n + 1) ps es us (grind arith) in (((n, grind arith), r.0), r.1)
