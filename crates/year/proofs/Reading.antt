@@ -1,5 +1,5 @@
 -- What the records of a file say, and what they keep where none has a fault. Assumes nothing.
-use Rattle.std.proofs.Common.{◌≡◌, ℕ, ◌+◌, ◌*◌, List, [], ◌∷◌, map, drop, None, sym, refl, ap, ◌∙◌, subst, arith}
+use Rattle.std.proofs.Common.{◌≡◌, ℕ, ◌+◌, List, [], ◌∷◌, map, drop, None, refl, ap, ◌∙◌, subst, arith}
 use Rattle.std.proofs.lemmas.List.{length-map}
 use Rattle.agreement.specs.Agreement.{together_fault}
 use Rattle.agreement.specs.Data.{YearData, year_data, Few}
@@ -28,11 +28,7 @@ pub gathers : (h : Header) (rest : List ℕ) → gathered h (told_after h rest) 
 gathers h rest = told_apart h 0 (point_parts h rest) (element_parts h rest) (use_parts h rest)
 
 pub counts : (h : Header) (rest : List ℕ) → Counted (year_after h rest)
-counts h rest = (
-  sym (length-map (point_parts h rest) point_of ∙ length-chunks 15 h.points rest),
-  sym (length-map (element_parts h rest) element_of ∙ length-chunks 9 h.elements (drop (15 * h.points) rest)),
-  sym (length-map (use_parts h rest) use_of ∙ length-chunks 5 h.uses (drop (15 * h.points + 9 * h.elements) rest)),
-)
+counts h rest = (simp (length-map, length-chunks), simp (length-map, length-chunks), simp (length-map, length-chunks))
 
 -- a header that keeps its ranges announces few enough records
 pub few : (h : Header) (rest : List ℕ) → HeaderIn h → Few (year_after h rest)

@@ -1,5 +1,5 @@
 -- A year and its file determine each other. Assumes nothing.
-use Rattle.std.proofs.Common.{◌≡◌, ℕ, ◌+◌, ◌*◌, ◌<◌, ◌≤◌, List, [], ◌++◌, map, length, get_or, take, drop, ℤ, pos, negsuc, nat_abs, Some, None, Option, sym, ap, ◌∙◌, append-nil, arith, rules, length-append}
+use Rattle.std.proofs.Common.{◌≡◌, ℕ, ◌+◌, ◌*◌, ◌<◌, ◌≤◌, List, [], ◌++◌, map, length, get_or, take, drop, ℤ, pos, negsuc, nat_abs, Some, None, sym, ap, ◌∙◌, append-nil, arith, rules, length-append}
 use Rattle.std.specs.List.{AllByRecursion, flat_map}
 use Rattle.std.specs.Simd.{first_chunks}
 use Rattle.std.proofs.ByRecursion.{All-get_or, All-from_get_or}
@@ -236,5 +236,6 @@ module _ (file : List ℕ) (bytes : Bytes file) (fine : None ≡ first_fault fil
 -- what a sound year writes is not refused
 pub never_refused : (file : List ℕ) (f : Fault) → Some f ≡ first_fault file → (d : YearData) → Sound d → file ≡ year_bytes d → ⊥
 never_refused file f e d so b =
-    let z : ◌≡◌ {A = Option Fault} (Some f) None = e ∙ (ap first_fault b ∙ sym (written_then_read d so).0) in
+    let n = (written_then_read d so).0 in
+    let s = ap first_fault b in
     cc

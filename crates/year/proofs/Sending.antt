@@ -1,5 +1,5 @@
 -- A year's file laid into a buffer part by part. Assumes nothing.
-use Rattle.std.proofs.Common.{◌≡◌, ℕ, ◌+◌, ◌<◌, ◌≤◌, List, ◌++◌, length, drop, Some, None, ap, ◌∙◌, zero-add, arith, rules, length-append}
+use Rattle.std.proofs.Common.{◌≡◌, ℕ, ◌+◌, ◌<◌, ◌≤◌, List, ◌++◌, length, Some, None, zero-add, arith, rules, length-append}
 use Rattle.std.specs.List.{flat_map}
 use Rattle.std.proofs.lemmas.Bool.Decides.{nat_tests}
 use Rattle.agreement.specs.Data.{YearData}
@@ -51,4 +51,4 @@ sent h p e u x b₁ b₂ b₃ b₄ n₁ n₂ n₃ n₄ l₁ l₂ room h₁ k₁ 
     let s₃ = after n₂ n₃ e u b₂ b₃ b₄ (omega arith) h₃ k₃ h₄ in
     let s₂ = after n₁ n₂ p (e ++ u) b₁ b₂ b₄ (omega arith) h₂ k₂ s₃ in
     let s₁ = after 0 n₁ h (p ++ (e ++ u)) x b₁ b₄ (omega arith) h₁ k₁ s₂ in
-    (simp length-append (omega arith), s₁ ∙ ap (λ (k : ℕ). (h ++ (p ++ (e ++ u))) ++ drop k x) (zero-add (length (h ++ (p ++ (e ++ u))))))
+    (simp length-append (omega arith), rw zero-add at s₁)

@@ -31,11 +31,8 @@ module _ {X : Type 0} (F : Form X) where
   pub parts_all : (xs : List X) (rest : List ℕ) → first_chunks F.size (length xs) (flat_map (record_bytes F) xs ++ rest) ≡ map (record_bytes F) xs
   parts_all [] rest = refl
   parts_all (x ∷ xs) rest =
-      let e = append_assoc (record_bytes F x) (flat_map (record_bytes F) xs) rest in
       let n = length_record F x in
-      let t : take F.size (record_bytes F x ++ (flat_map (record_bytes F) xs ++ rest)) ≡ record_bytes F x = take_at (record_bytes F x) _ F.size n in
-      let d : drop F.size (record_bytes F x ++ (flat_map (record_bytes F) xs ++ rest)) ≡ flat_map (record_bytes F) xs ++ rest = drop_at (record_bytes F x) _ F.size n in
-      rw (e, t, d, parts_all xs rest)
+      rw (append_assoc (record_bytes F x), take_at (record_bytes F x) _ F.size n, drop_at (record_bytes F x) _ F.size n, parts_all xs rest)
 
   pub past_all : (xs : List X) (rest : List ℕ) → drop (F.size * length xs) (flat_map (record_bytes F) xs ++ rest) ≡ rest
   past_all xs rest = drop_at (flat_map (record_bytes F) xs) rest (F.size * length xs) (length_all xs)

@@ -1,9 +1,7 @@
 -- The records of a file, cut into parts and told in their order. Assumes nothing.
-use Rattle.std.proofs.Common.{◌≡◌, ℕ, zero, suc, ◌+◌, ◌*◌, List, [], ◌∷◌, length, take, drop, Some, None, Option, refl, ap, mul-suc, arith}
+use Rattle.std.proofs.Common.{◌≡◌, ℕ, zero, suc, ◌+◌, ◌*◌, List, [], ◌∷◌, length, take, drop, None, refl, ap, mul-suc, arith}
 use Rattle.std.specs.Simd.{first_chunks}
 use Rattle.std.proofs.lemmas.List.{take-take, drop-take, drop-drop}
-use Rattle.bits.specs.Laid.{◌or_else◌}
-use Rattle.bits.specs.declared.fault.Fault.{Fault}
 use Rattle.records.specs.Elements.{element_fault}
 use Rattle.records.specs.Points.{point_fault}
 use Rattle.records.specs.Uses.{use_fault}
