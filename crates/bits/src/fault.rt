@@ -11,7 +11,8 @@ pub enum Layer {
     Year,
 }
 
-// The header or a bill is record 0. Fields count from 1, the kind and the spare bits too, and 0 is none.
+// The header or a bill is record 0. Fields count from 1, the kind and the spare bits too. A fault that lies in no record or
+// field names 0, as the rules want it; an `Option` would say that 0 another way.
 #[derive(Clone, Copy, Debug, PartialEq, Eq)]
 pub struct Fault {
     pub refusal: Refusal,

@@ -9,7 +9,8 @@ use std::array;
 pub const MAX_POOL: u64 = 100_000_000_000;
 
 // The ghost members say what a method means, for each pool: the list of amounts by point and the list of parts by
-// element. The laws say what holds of every method, and are all that generic code may use.
+// element. The laws say what holds of every method, and are all that generic code may use. A point's amount and an element's
+// part are asked alike, but each has a law of its own and a method answers it in a way of its own.
 pub trait Method {
     ghost points: { Self → ℕ };
 

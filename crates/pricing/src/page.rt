@@ -5,7 +5,7 @@ ghost use Rattle.pricing.specs.Printed.{charges_text, page_text};
 use std::fmt;
 
 // The average locational price of a year and the price at each place, in thousandths of a cent per kW; zero past the last
-// point, and all zero where no year was opened.
+// point, and all zero where no year was opened: by the rules a zero sets no bound, so an `Option` would be no plainer.
 #[derive(Clone, Copy, Debug, PartialEq, Eq)]
 pub struct LocationalPrices {
     pub average: u64,
