@@ -42,6 +42,7 @@ fn l1_of(half: u64, residue: i64) -> i64
     requires residue { unsigned_abs residue ≤ 10000000000 }
     ensures { result ≡ l1_of half residue }
 {
+    // By `as`: cents that fit, though no `From` says so.
     half as i64 - residue
 }
 

@@ -4,6 +4,9 @@ use Rattle.std.proofs.lemmas.Iterator.{YieldsList-from_slice, YieldsList-from_ta
 use Rattle.std.proofs.lemmas.Iterator.Consumers.{YieldsList-end}
 use Rattle.pricing.proofs.page.PageDisplay.fmt.Goals as goal
 
+pub loop-charges-preserved : goal.loop-charges-preserved
+loop-charges-preserved g c = grind (arith, common_steps)
+
 pub returns-clause-writes : goal.returns-clause-writes
 returns-clause-writes g c =
     let p = c.args.self.now in
