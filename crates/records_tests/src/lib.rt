@@ -2,13 +2,13 @@
 // field.
 #![tactic(auto)]
 
+ghost use Rattle.std.specs.Prelude.{◌<◌};
+
 #[cfg(test)]
 mod bytes;
 
 #[cfg(test)]
 mod tests {
-    ghost use Rattle.std.specs.Prelude.{◌<◌};
-
     use crate::bytes::*;
     use bits::fault::Fault;
     use bits::refusal::Refusal;
@@ -42,7 +42,7 @@ mod tests {
         let item = T::read(bytes, record)?;
         let mut buffer = [0xff; 64];
         assert_eq!(rt; item.write(&mut buffer[0..M + 1], record), Ok(M));
-        assert_eq!(rt; &buffer[0..M], &bytes[0..M]);
+        assert_eq!(rt; &buffer[0..M], bytes.as_slice());
         assert_eq!(rt; buffer[M], 0xff);
         Ok(item)
     }
@@ -148,13 +148,13 @@ mod tests {
             header_again(&rt, bytes)?;
         }
         for bytes in POINT_LIMITS {
-            point_again(&rt, bytes)?;
+            again::<Point, 6, 15>(&rt, bytes, 1)?;
         }
         for bytes in ELEMENT_LIMITS {
             again::<Element, 3, 9>(&rt, bytes, 4)?;
         }
         for bytes in USE_LIMITS {
-            use_again(&rt, bytes)?;
+            again::<NetworkUse, 4, 5>(&rt, bytes, 5)?;
         }
         for bytes in BILL_LIMITS {
             bill_again(&rt, bytes)?;
