@@ -52,7 +52,7 @@ impl Lists {
         Ok(())
     }
 
-    // Takes in a record, unless a field of it is out of its range.
+    // Takes in a record, unless a field of it is out of its range. (A generic arm would be no shorter than the three.)
     fn add(&mut self, item: Record) -> Result<(), Fault>
         requires few { Few (with (data_of self.old) (told item)) }
         requires small { place_of (told item) + 1 < 2 ^ 16 }

@@ -20,21 +20,21 @@ impl Year {
     pub fn points(&self) -> &[Point]
         ensures { result.now ≡ (contents self.now).points }
     {
-        self.held.points.as_slice()
+        &self.held.points
     }
 
     // The elements; the empty year has none.
     pub fn elements(&self) -> &[Element]
         ensures { result.now ≡ (contents self.now).elements }
     {
-        self.held.elements.as_slice()
+        &self.held.elements
     }
 
     // The uses; the empty year has none.
     pub fn uses(&self) -> &[NetworkUse]
         ensures { result.now ≡ (contents self.now).uses }
     {
-        self.held.uses.as_slice()
+        &self.held.uses
     }
 
     // The header, with the year, the counts and the amounts.
