@@ -1,7 +1,7 @@
 -- What the limits of a year say of the figures that a method or a page takes out of it. Assumes nothing.
-use Rattle.std.proofs.Common.{◌≡◌, ℕ, ◌<◌, ◌≤◌, cond, length, get_or, refl, ap, arith}
+use Rattle.std.proofs.Common.{ℕ, ◌<◌, ◌≤◌, length, get_or, arith}
 use Rattle.std.proofs.lemmas.List.Sums.{get_or-le-sum_by}
-use Rattle.std.proofs.lemmas.Bool.{eq-eqb}
+use Rattle.std.proofs.lemmas.Bool.Decides.{nat_tests}
 use Rattle.agreement.specs.Together.{no_point, no_use}
 use Rattle.agreement.specs.Totals.{entry_cost_of, exit_cost_of, network_cost, drawn}
 use Rattle.records.specs.declared.point.Point.{Point}
@@ -31,5 +31,6 @@ module _ (y : Year) where
   pub use_within : (k : ℕ) → k < length (contents y).uses → (get_or (contents y).uses k no_use).demand ≤ 10000000
   use_within k h =
       let u = get_or (contents y).uses k no_use in
-      let all-drawn : drawn u.element u ≡ u.demand = ap (λ same. cond same u.demand 0) (eq-eqb u.element u.element refl) in
-      omega (arith, all-drawn, y.used u.element (y.named k h).0, get_or-le-sum_by (drawn u.element) (contents y).uses k no_use h)
+      let own = y.used u.element (y.named k h).0 in
+      let among = get_or-le-sum_by (drawn u.element) (contents y).uses k no_use h in
+      grind (arith, nat_tests)
