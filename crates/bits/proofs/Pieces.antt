@@ -39,10 +39,9 @@ piece_given xs u k z l r =
     rw o (sym (piece_value xs u k (8 - u - k) (some_bytes xs u k z r) e), mod_below (get_or xs 0 0 / 2 ^ (8 - u - k)) (2 ^ k) (pow_pos k))
 
 -- the last bits of a byte leave the bytes after it
-pub byte_done : (xs : List ℕ) (u k : ℕ) → 0 < length xs → u + k ≡ 8 → bits (take (length xs - 1) (drop 1 xs)) ≡ drop k (drop u (bits xs))
+pub byte_done : (xs ys : List ℕ) (x u k : ℕ) → xs ≡ x ∷ ys → u + k ≡ 8 → bits ys ≡ drop k (drop u (bits xs))
 unfolding bits bits_of
-byte_done [] u k h e = absurd (omega arith)
-byte_done (x ∷ xs) u k h e = sym (drop-drop k u (bits (x ∷ xs)) ∙ (ap (λ (n : ℕ). drop n (bits (x ∷ xs))) e ∙ ap bits (sym (take_rest (x ∷ xs) 1))))
+byte_done xs ys x u k s e = rw s (sym (drop-drop k u (bits (x ∷ ys)) ∙ ap (λ (n : ℕ). drop n (bits (x ∷ ys))) e))
 
 -- w bits of `whole` are to be taken: `value` is the number in those that are, `left` are to come, and `now` is ahead
 pub record Taken (whole : List ℕ) (w value left : ℕ) (now : List ℕ) : Type 0 where

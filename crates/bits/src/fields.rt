@@ -3,7 +3,7 @@
 ghost use Rattle.std.specs.Prelude.{◌≡◌, ℕ, ◌+◌, ◌-◌, ◌*◌, ◌%◌, ◌^◌, ◌<◌, ◌≤◌, length, slice_index, IfOk, OnOk};
 ghost use Rattle.std.specs.Result.{result_err};
 ghost use Rattle.bits.specs.Bits.{bits, bytes_of};
-ghost use Rattle.bits.specs.Layout.{plain, free, only, signed, meaning, keeps, values_in, packed, span, first_bad, AllKeep, Narrow};
+ghost use Rattle.bits.specs.Layout.{plain, free, only, signed, meaning, keeps, values_in, packed, span, first_bad, AllKeep};
 ghost use Rattle.bits.specs.Laid.{room_fault, laid};
 
 use crate::fault::Fault;
@@ -77,10 +77,10 @@ impl Field {
     }
 }
 
-impl<const N: usize, const M: usize> Layout<N, M> {
+impl<const N: usize> Layout<N> {
     // The values that bytes hold.
     pub fn decode(&self, bytes: &[u8]) -> [u64; N]
-        requires { M ≤ length bytes.now }
+        requires { span self.now.fields ≤ 8 * length bytes.now }
         ensures value { result ≡ values_in self.now.fields (bits bytes.now) }
         ensures eight { (k : ℕ) → slice_index bytes.now k < 2 ^ 8 }
     {
@@ -95,6 +95,7 @@ impl<const N: usize, const M: usize> Layout<N, M> {
 
     // Holds the values of a record against their ranges.
     pub fn check(&self, values: &[u64; N], record: u16) -> Result<(), Fault>
+        requires { N < 256 }
         ensures fault { result_err result ≡ first_bad «record» 1 self.now.fields values.now }
         ensures kept { OnOk result (AllKeep self.now.fields values.now) }
     {
@@ -107,7 +108,9 @@ impl<const N: usize, const M: usize> Layout<N, M> {
     }
 
     // The bytes of a row of values.
-    pub fn encode(&self, values: &[u64; N]) -> [u8; M]
+    pub fn encode<const M: usize>(&self, values: &[u64; N]) -> [u8; M]
+        requires whole { span self.now.fields ≡ 8 * M }
+        requires small { M < 2 ^ 32 }
         ensures { result ≡ bytes_of M (packed self.now.fields values.now) }
     {
         let mut bits = Writer::new();

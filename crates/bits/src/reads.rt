@@ -24,9 +24,7 @@ impl<'a> Reader<'a> {
         ensures small { result < 2 ^ count }
         ensures after { ahead self.new ≡ drop count (ahead self.old) }
     {
-        let [first, tail @ ..] = self.rest else {
-            unreachable!()
-        };
+        let (first, tail) = self.rest.split_first().unwrap();
         let low = 8 - self.used - count;
         let value = (u64::from(*first) >> low) % (1 << count);
         if low == 0 {

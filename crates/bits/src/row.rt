@@ -14,7 +14,7 @@ pub trait Row<const N: usize, const M: usize> {
     ghost form: { Form Self };
 
     // The fields of a record with these values: a range may hang on them.
-    fn layout(values: &[u64; N]) -> Layout<N, M>
+    fn layout(values: &[u64; N]) -> Layout<N>
         ensures { Stands form values.now result.fields };
 
     fn values(&self) -> [u64; N]
@@ -48,7 +48,7 @@ pub trait Row<const N: usize, const M: usize> {
         let values = self.values();
         let layout = Self::layout(&values);
         layout.check(&values, record)?;
-        lay_front(&layout.encode(&values), buffer)
+        lay_front(&layout.encode::<M>(&values), buffer)
     }
 
     ghost sized: { Sized form N M };

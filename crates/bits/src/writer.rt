@@ -3,7 +3,8 @@ ghost use Rattle.std.specs.Prelude.{◌≡◌, ◌^◌, ◌<◌, ◌≤◌, leng
 
 #[derive(Drop)]
 pub struct Writer<const N: usize> {
-    // The bytes, of which the first `whole` are written, and the next one's first `used` bits, as a number.
+    // The bytes, of which the first `whole` are written, and the next one's first `used` bits, as a number. An array, since
+    // nothing is taken from the heap.
     pub(crate) bytes: [u8; N],
     pub(crate) whole: usize,
     pub(crate) part: u16,

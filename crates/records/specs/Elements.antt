@@ -1,7 +1,7 @@
 -- The record of an element, 9 bytes.
 use Rattle.std.specs.Prelude.{ℕ, List, [], ◌∷◌, Option, slice_index}
-use Rattle.bits.specs.Forms.{Form, record_of, record_fault, record_bytes, record_refusal}
-use Rattle.bits.specs.Layout.{plain, AllKeep}
+use Rattle.bits.specs.Forms.{Form, record_of, record_fault, record_bytes}
+use Rattle.bits.specs.Layout.{plain}
 use Rattle.bits.specs.declared.fault.Fault.{Fault}
 use Rattle.bits.specs.declared.field.Field.{Field}
 use Rattle.records.specs.declared.element.Element.{Element}
@@ -29,14 +29,6 @@ element_of bytes = record_of element_form bytes
 abbrev pub element_fault : ℕ → List ℕ → Option Fault
 element_fault nth bytes = record_fault element_form nth bytes
 
--- each field keeps its range
-abbrev pub ElementIn : Element → Type 0
-ElementIn e = AllKeep element_fields (element_values e)
-
 -- the bytes of an element
 abbrev pub element_bytes : Element → List ℕ
 element_bytes e = record_bytes element_form e
-
--- why an element is not written as record number `nth` into a buffer of so many bytes
-abbrev pub element_refusal : ℕ → Element → ℕ → Option Fault
-element_refusal nth e room = record_refusal element_form nth e room

@@ -1,7 +1,7 @@
 -- The record of a point, 15 bytes.
 use Rattle.std.specs.Prelude.{ℕ, List, [], ◌∷◌, Option, slice_index}
-use Rattle.bits.specs.Forms.{Form, record_of, record_fault, record_bytes, record_refusal}
-use Rattle.bits.specs.Layout.{plain, free, only, AllKeep}
+use Rattle.bits.specs.Forms.{Form, record_of, record_fault, record_bytes}
+use Rattle.bits.specs.Layout.{plain, free, only}
 use Rattle.bits.specs.declared.fault.Fault.{Fault}
 use Rattle.bits.specs.declared.field.Field.{Field}
 use Rattle.records.specs.declared.point.Point.{Point}
@@ -32,14 +32,6 @@ point_of bytes = record_of point_form bytes
 abbrev pub point_fault : ℕ → List ℕ → Option Fault
 point_fault nth bytes = record_fault point_form nth bytes
 
--- each field keeps its range
-abbrev pub PointIn : Point → Type 0
-PointIn p = AllKeep point_fields (point_values p)
-
 -- the bytes of a point
 abbrev pub point_bytes : Point → List ℕ
 point_bytes p = record_bytes point_form p
-
--- why a point is not written as record number `nth` into a buffer of so many bytes
-abbrev pub point_refusal : ℕ → Point → ℕ → Option Fault
-point_refusal nth p room = record_refusal point_form nth p room

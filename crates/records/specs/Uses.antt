@@ -1,7 +1,7 @@
 -- The record of a use, 5 bytes.
 use Rattle.std.specs.Prelude.{ℕ, List, [], ◌∷◌, Option, slice_index}
-use Rattle.bits.specs.Forms.{Form, record_of, record_fault, record_bytes, record_refusal}
-use Rattle.bits.specs.Layout.{free, only, AllKeep}
+use Rattle.bits.specs.Forms.{Form, record_of, record_fault, record_bytes}
+use Rattle.bits.specs.Layout.{free, only}
 use Rattle.bits.specs.declared.fault.Fault.{Fault}
 use Rattle.bits.specs.declared.field.Field.{Field}
 use Rattle.records.specs.declared.network_use.NetworkUse.{NetworkUse}
@@ -30,14 +30,6 @@ use_of bytes = record_of use_form bytes
 abbrev pub use_fault : ℕ → List ℕ → Option Fault
 use_fault nth bytes = record_fault use_form nth bytes
 
--- each field keeps its range
-abbrev pub UseIn : NetworkUse → Type 0
-UseIn u = AllKeep use_fields (use_values u)
-
 -- the bytes of a use
 abbrev pub use_bytes : NetworkUse → List ℕ
 use_bytes u = record_bytes use_form u
-
--- why a use is not written as record number `nth` into a buffer of so many bytes
-abbrev pub use_refusal : ℕ → NetworkUse → ℕ → Option Fault
-use_refusal nth u room = record_refusal use_form nth u room

@@ -22,7 +22,7 @@ impl Row<3, 9> for Element {
 
     ghost lawful = { element_lawful };
 
-    fn layout(_values: &[u64; 3]) -> Layout<3, 9> {
+    fn layout(_values: &[u64; 3]) -> Layout<3> {
         Layout {
             fields: [
                 Field::plain(24, 0, 10_000_000),

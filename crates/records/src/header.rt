@@ -38,7 +38,7 @@ impl Row<11, 27> for Header {
     ghost lawful = { header_lawful };
 
     // The common operating cost is at most the allowed revenue.
-    fn layout(values: &[u64; 11]) -> Layout<11, 27> {
+    fn layout(values: &[u64; 11]) -> Layout<11> {
         let allowed = values[6];
         Layout {
             fields: [
@@ -114,7 +114,8 @@ impl Header {
         Ok((header, rest))
     }
 
-    // Writes the header at the front of a buffer, and answers how many bytes.
+    // Writes the header, which is record 0 and so has a name of its own for it, at the front of a buffer, and answers how
+    // many bytes.
     pub fn write(&self, buffer: &mut [u8]) -> Result<usize, Fault>
         ensures fault { result_err result ≡ header_refusal self.now (length buffer.old) }
         ensures count { IfOk result (λ n. n ≡ 27) }

@@ -22,7 +22,7 @@ impl Row<4, 5> for NetworkUse {
 
     ghost lawful = { use_lawful };
 
-    fn layout(_values: &[u64; 4]) -> Layout<4, 5> {
+    fn layout(_values: &[u64; 4]) -> Layout<4> {
         Layout {
             fields: [
                 Field::free(8),

@@ -24,7 +24,7 @@ impl Row<6, 15> for Point {
 
     ghost lawful = { point_lawful };
 
-    fn layout(_values: &[u64; 6]) -> Layout<6, 15> {
+    fn layout(_values: &[u64; 6]) -> Layout<6> {
         Layout {
             fields: [
                 Field::plain(16, 1, 65_535),

@@ -12,7 +12,7 @@ loop-field-init g c =
     let vs = c.args.values.now in
     let a : c.into_iter-field-iterator.result.a.rest.now ≡ fs = search rules in
     let b : c.into_iter-field-iterator.result.b.rest.now ≡ vs = search rules in
-    rw (a, b, c.new-bits.ensures) (record { bits = refl; room = omega (arith, c.args.self.now.whole); narrow = narrow_all fs c.args.self.now.narrow; count = omega arith })
+    rw (a, b, c.new-bits.ensures) (record { bits = refl; room = omega (arith, c.requires.whole); narrow = narrow_all fs c.args.self.now.narrow; count = omega arith })
 
 pub put-requires : goal.put-requires
 put-requires g c =
