@@ -21,6 +21,7 @@ mod tests {
     use std::process::Abort;
     use std::test::Fail;
 
+    // A header and a bill have a `read` and a `write` of their own, so they are tried by functions of their own.
     fn header_again(rt: &impl Abort, bytes: &[u8; 27]) -> Result<Header, Fail> {
         let (header, rest) = Header::read(bytes)?;
         assert_eq!(rt; rest.len(), 0);
@@ -196,7 +197,8 @@ mod tests {
         assert_eq!(rt; Fault::bits(Refusal::TrailingBytes).refusal.number(), 2);
     }
 
-    // Refused at a field, also where the buffer is too short, which then stays as it was.
+    // Refused at a field, also where the buffer is too short, which then stays as it was. One for each kind, as two of the
+    // three write by a function of their own.
     fn bill_refused(rt: &impl Abort, bill: Bill, field: u8) {
         let mut buffer = [7; 40];
         assert_eq!(rt; bill.write(&mut buffer), Err(Fault::outside(0, field)));

@@ -21,6 +21,7 @@ pub(crate) struct Segment<'a> {
 pub(crate) struct Segments<'a> {
     pub(crate) elements: Portions<'a, Element>,
     pub(crate) uses: &'a [NetworkUse],
+    // The element's place, by which its uses are known; an `enumerate` would hide what the facts below speak of.
     pub(crate) place: usize,
     ghost few: { place + length elements.items.now ≤ 65536 },
     ghost rises: { Rises place uses.now } by { rises-prop place uses.now },

@@ -51,6 +51,7 @@ impl<'a> Iterator for Segments<'a> {
     }
 }
 
+// The rule and the pool are two arguments throughout: a pair of them would be made and taken apart at once.
 impl<'a> Segment<'a> {
     // What the point at a place has of the element's part. Only its own uses cost divisions; beside them the others are
     // added up.

@@ -52,7 +52,8 @@ impl Lists {
         Ok(())
     }
 
-    // Takes in a record, unless a field of it is out of its range. (A generic arm would be no shorter than the three.)
+    // Takes in a record, unless a field of it is out of its range. Each arm is one call; a helper
+    // would be handed the list, the bytes and the place, and its calls would be as long.
     fn add(&mut self, item: Record) -> Result<(), Fault>
         requires few { Few (with (data_of self.old) (told item)) }
         requires small { place_of (told item) + 1 < 2 ^ 16 }

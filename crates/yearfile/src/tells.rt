@@ -44,6 +44,7 @@ impl<'a> Iterator for Records<'a> {
             let bytes = self.uses.next()?;
             Record::Use { bytes, place }
         };
+        // Counted here, since a record is told with its place, whichever of the three iterators it came from.
         self.place += 1;
         Some(record)
     }
