@@ -1,10 +1,10 @@
 -- The round trips of any kind of record that obeys a few laws. Assumes nothing.
-use Rattle.std.proofs.Common.{◌≡◌, ℕ, List, [], ◌∷◌, length, IfOk, None, Ok, Err, Option, Result, sym, refl, ap, ◌∙◌, subst, arith}
+use Rattle.std.proofs.Common.{◌≡◌, ℕ, List, [], ◌∷◌, length, IfOk, None, Ok, Err, Option, Result, sym, refl, ◌∙◌}
 use Rattle.std.specs.Result.{result_err}
 use Rattle.bits.specs.Bits.{bits, bytes_of}
 use Rattle.bits.specs.Forms.{Form, values_of, record_of, record_fault, record_bytes, record_refusal, InRange}
-use Rattle.bits.specs.Laid.{row_refusal, room_fault, ◌or_else◌}
-use Rattle.bits.specs.Rows.{Alike, Stands, Lawful, Kept}
+use Rattle.bits.specs.Laid.{row_refusal}
+use Rattle.bits.specs.Rows.{Stands, Lawful, Kept}
 use Rattle.bits.specs.Layout.{packed, first_bad, AllKeep}
 use Rattle.bits.specs.declared.fault.Fault.{Fault}
 use Rattle.bits.specs.declared.field.Field.{Field}
@@ -19,14 +19,10 @@ widths (f ∷ fs) = f.width ∷ widths fs
 pub packed_same : (fs gs : List Field) → widths fs ≡ widths gs → (vs : List ℕ) → packed fs vs ≡ packed gs vs
 unfolding packed
 packed_same [] [] e vs = refl
-packed_same [] (g ∷ gs) e vs = let z : ◌≡◌ {A = ℕ} 0 1 = cc in absurd (omega arith)
-packed_same (f ∷ fs) [] e vs = let z : ◌≡◌ {A = ℕ} 0 1 = cc in absurd (omega arith)
+packed_same [] (g ∷ gs) e vs = cc
+packed_same (f ∷ fs) [] e vs = cc
 packed_same (f ∷ fs) (g ∷ gs) e [] = refl
-packed_same (f ∷ fs) (g ∷ gs) e (v ∷ vs) =
-    let a : f.width ≡ g.width = cc in
-    let b : widths fs ≡ widths gs = cc in
-    let i = packed_same fs gs b vs in
-    cc
+packed_same (f ∷ fs) (g ∷ gs) e (v ∷ vs) = let i = packed_same fs gs (cc) vs in cc
 
 -- a record has so many bytes
 pub length_record : {X : Type 0} (F : Form X) (x : X) → length (record_bytes F x) ≡ F.size
@@ -43,67 +39,57 @@ unfolding record_of record_fault record_bytes
 written_read F l place x h =
     let vs = F.values x in
     let a = l.alike vs in
-    let b : bytes_of F.size (packed (F.fields []) vs) ≡ bytes_of F.size (packed (F.fields vs) vs) = ap (bytes_of F.size) (sym (a.bits vs)) in
-    let r : values_of F (bytes_of F.size (packed (F.fields []) vs)) ≡ vs =
-    ap (values_of F) b ∙ (sym (a.values (bits (bytes_of F.size (packed (F.fields vs) vs)))) ∙ reads_back F.size (F.fields vs) vs (a.count ∙ sym (l.count x)) (a.span ∙ l.whole) h.0) in
-    (ap (λ (us : List ℕ). first_bad place 1 (F.fields us) us) r ∙ none_bad place 1 (F.fields vs) vs h.0, ap F.named r ∙ l.back x h)
+    let b = a.bits vs in
+    let v = a.values (bits (bytes_of F.size (packed (F.fields vs) vs))) in
+    let k = reads_back F.size (F.fields vs) vs (a.count ∙ sym (l.count x)) (a.span ∙ l.whole) h.0 in
+    let r : values_of F (bytes_of F.size (packed (F.fields []) vs)) ≡ vs = cc in
+    let n = none_bad place 1 (F.fields vs) vs h.0 in
+    let o = l.back x h in
+    (cc, cc)
 
 -- bytes without a fault are those of the record in them, which keeps its ranges
 pub read_written : {X : Type 0} (F : Form X) → Lawful F → (place : ℕ) (xs : List ℕ) → length xs ≡ F.size → Bytes xs → record_fault F place xs ≡ None → InRange F (record_of F xs) × (xs ≡ record_bytes F (record_of F xs))
 unfolding record_of record_fault record_bytes
 read_written F l place xs n b e =
-    let vs = values_of F xs in
-    let k = all_kept place 1 (F.fields vs) vs e in
+    let k = all_kept place 1 (F.fields (values_of F xs)) (values_of F xs) e in
     let c = length_values (F.fields []) (bits xs) in
-    let f = l.forth vs c k in (
-      (subst (λ (us : List ℕ). AllKeep (F.fields us) us) (sym f) k, l.limited vs c k),
-      sym (ap (λ (us : List ℕ). bytes_of F.size (packed (F.fields []) us)) f ∙ writes_back F.size (F.fields []) xs l.narrow l.whole n b),
-    )
+    rw (l.forth (values_of F xs) c k) ((k, l.limited (values_of F xs) c k), sym (writes_back F.size (F.fields []) xs l.narrow l.whole n b))
 
 -- fields that are those of a kind of record serve for them
 pub stands_same : {X : Type 0} (F : Form X) → Lawful F → (vs : List ℕ) (gs : List Field) → gs ≡ F.fields vs → Stands F vs gs
-stands_same F l vs gs e =
-    record { alike = subst (λ (fs : List Field). Alike fs (F.fields [])) (sym e) (l.alike vs); judges = λ nth. ap (λ (fs : List Field). first_bad nth 1 fs vs) e }
+stands_same F l vs gs e = rw e (record { alike = l.alike vs; judges = λ nth. refl })
 
 -- values that keep the ranges of such fields keep their own
 pub kept_by : {X : Type 0} (F : Form X) (vs : List ℕ) (gs : List Field) → Stands F vs gs → AllKeep gs vs → Kept F vs
-kept_by F vs gs s k = all_kept 0 1 (F.fields vs) vs (sym (s.judges 0) ∙ none_bad 0 1 gs vs k)
+kept_by F vs gs s k = all_kept 0 1 (F.fields vs) vs (rw (← s.judges 0) (none_bad 0 1 gs vs k))
 
 -- What reading answers, where the code has the values as `vs` and fields `gs` that serve for theirs: the fault of a read
 -- that fails, and all that is known of one that succeeds.
 pub read_fails : {X : Type 0} (F : Form X) (place : ℕ) (xs vs : List ℕ) (gs : List Field) (o : Option Fault) → vs ≡ values_of F xs → Stands F vs gs → o ≡ first_bad place 1 gs vs → o ≡ record_fault F place xs
 unfolding record_fault
-read_fails F place xs vs gs o v s e = e ∙ (s.judges place ∙ ap (λ (us : List ℕ). first_bad place 1 (F.fields us) us) v)
+read_fails F place xs vs gs o v s e = cc (s.judges place)
 
 pub read_succeeds : {X : Type 0} (F : Form X) → Lawful F → (place : ℕ) (xs vs : List ℕ) (gs : List Field) → length xs ≡ F.size → Bytes xs → vs ≡ values_of F xs → Stands F vs gs → None ≡ first_bad place 1 gs vs
     → (None ≡ record_fault F place xs) × (F.named vs ≡ record_of F xs) × (InRange F (F.named vs) × (xs ≡ record_bytes F (F.named vs)))
 unfolding record_of
-read_succeeds {X} F l place xs vs gs n b v s e =
-    let d : record_fault F place xs ≡ None = sym (read_fails F place xs vs gs None v s e) in
-    let m : F.named vs ≡ F.named (values_of F xs) = ap F.named v in
-    (sym d, m, subst (λ (x : X). InRange F x × (xs ≡ record_bytes F x)) (sym m) (read_written F l place xs n b d))
+read_succeeds F l place xs vs gs n b v s e =
+    let d = read_fails F place xs vs gs None v s e in
+    rw v (d, refl, read_written F l place xs n b (sym d))
 
 -- a read finds the record whose bytes these are
 pub read_finds : {X : Type 0} (F : Form X) → Lawful F → (place : ℕ) (xs : List ℕ) (r : Result X Fault) → result_err r ≡ record_fault F place xs → IfOk r (λ x. x ≡ record_of F xs) → (x : X) → InRange F x → xs ≡ record_bytes F x → r ≡ Ok x
-read_finds F l place xs (Ok y) e m x h b = let w = written_read F l place x h in ap Ok (m ∙ (ap (record_of F) b ∙ w.1))
-read_finds F l place xs (Err f) e m x h b =
-    let w = written_read F l place x h in
-    let n = e ∙ (ap (record_fault F place) b ∙ w.0) in
-    let z : ◌≡◌ {A = ℕ} 0 1 = cc in
-    absurd (omega arith)
+read_finds F l place xs (Ok y) e m x h b = let w = written_read F l place x h in cc
+read_finds F l place xs (Err f) e m x h b = let w = written_read F l place x h in cc
 
 -- what writing answers, where the code has the values of x as `vs` and fields `gs` that serve for theirs
 pub write_answers : {X : Type 0} (F : Form X) (place room : ℕ) (x : X) (vs : List ℕ) (gs : List Field) → vs ≡ F.values x → Stands F vs gs
     → (row_refusal place F.size gs vs room ≡ record_refusal F place x room) × (bytes_of F.size (packed gs vs) ≡ record_bytes F x)
 unfolding record_refusal record_bytes
-write_answers F place room x vs gs v s = (
-  ap (λ (o : Option Fault). o or_else room_fault F.size room) (s.judges place) ∙ ap (λ (us : List ℕ). row_refusal place F.size (F.fields us) us room) v,
-  ap (bytes_of F.size) (s.alike.bits vs) ∙ ap (λ (us : List ℕ). bytes_of F.size (packed (F.fields []) us)) v,
-)
+write_answers F place room x vs gs v s = (rw (s.judges place, v), rw (s.alike.bits vs, v))
 
 pub write_stands : {X : Type 0} (F : Form X) → Lawful F → (place : ℕ) (x : X) (vs : List ℕ) (gs : List Field) → vs ≡ F.values x → Stands F vs gs → (Kept F vs → F.limits x) → AllKeep gs vs
     → InRange F x × ((record_fault F place (record_bytes F x) ≡ None) × (record_of F (record_bytes F x) ≡ x))
 write_stands F l place x vs gs v s m k =
     let q = kept_by F vs gs s k in
-    let h : InRange F x = (subst (λ (us : List ℕ). AllKeep (F.fields us) us) v q, m q) in
+    let h : InRange F x = (rw v at q, m q) in
     (h, written_read F l place x h)

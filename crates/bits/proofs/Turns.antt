@@ -1,7 +1,7 @@
 -- Rows of fields, one field at a time. Assumes nothing.
-use Rattle.std.proofs.Common.{◌≡◌, ℕ, zero, suc, ◌+◌, ◌<◌, ◌≤◌, ◌&&◌, leb, true, false, List, [], ◌∷◌, ◌++◌, length, get_or, take, drop, set, replicate, Some, None, Option, sym, refl, ap, ◌∙◌, add-one, arith}
+use Rattle.std.proofs.Common.{◌≡◌, ℕ, zero, suc, ◌+◌, ◌<◌, ◌≤◌, true, false, List, [], ◌∷◌, ◌++◌, length, get_or, take, drop, set, replicate, Some, None, Option, sym, refl, ◌∙◌, add-one, arith}
 use Rattle.std.proofs.lemmas.List.{length-append, append_assoc, append-nil, drop_more, drop_all, take_all, take_more_set, length-set, length-drop, length-replicate}
-use Rattle.std.proofs.lemmas.Bool.{and_parts, leb-true}
+use Rattle.std.proofs.lemmas.Bool.Decides.{nat_tests}
 use Rattle.bits.specs.Bits.{bits_of, number}
 use Rattle.bits.specs.Faults.{field_fault}
 use Rattle.bits.specs.Layout.{plain, narrow, meaning, keeps, values_in, packed, span, first_bad, Narrow}
@@ -16,15 +16,12 @@ blank = plain 0 0 0
 -- what the test of a layout says
 pub narrow_all : (fs : List Field) → narrow fs ≡ true → Narrow fs
 narrow_all [] e = tt
-narrow_all (f ∷ fs) e =
-    let a = and_parts (leb 1 f.width && leb f.width 63) (narrow fs) e in
-    let b = and_parts (leb 1 f.width) (leb f.width 63) a.0 in
-    (leb-true 1 f.width b.0, leb-true f.width 63 b.1, narrow_all fs a.1)
+narrow_all (f ∷ fs) e = (grind (arith, nat_tests), grind (arith, nat_tests), narrow_all fs (grind (arith, nat_tests)))
 
 pub narrow_at : (fs : List Field) (i : ℕ) (d : Field) → Narrow fs → i < length fs → (1 ≤ (get_or fs i d).width) × ((get_or fs i d).width ≤ 63)
 narrow_at [] i d n h = absurd (omega arith)
 narrow_at (f ∷ fs) zero d n h = (n.0, n.1)
-narrow_at (f ∷ fs) (suc i) d n h = let k : i < length fs = omega arith in narrow_at fs i d n.2 k
+narrow_at (f ∷ fs) (suc i) d n h = narrow_at fs i d n.2 (omega arith)
 
 -- the loop that reads: the values so far, and those that the rest of the fields have in the bits ahead
 pub record Read (fs : List Field) (whole vs : List ℕ) (i n : ℕ) (now : List ℕ) : Type 0 where
@@ -36,29 +33,24 @@ pub read_none : (fs : List Field) (whole : List ℕ) (n : ℕ) → span fs ≤ l
 read_none fs whole n h = record { values = refl; room = h; count = length-replicate n 0 }
 
 pub read_width : (fs : List Field) (i : ℕ) (d : Field) → i < length fs → span (drop i fs) ≡ (get_or fs i d).width + span (drop (i + 1) fs)
-read_width fs i d h = ap span (drop_more fs i d h)
+read_width fs i d h = rw (drop_more fs i d h)
 
 pub read_more : (fs : List Field) (whole values : List ℕ) (i n : ℕ) (now next : List ℕ) (d : Field) (v : ℕ) → Read fs whole values i n now → i < length fs → i < n
     → v ≡ meaning (get_or fs i d).range (get_or fs i d).width (number (take (get_or fs i d).width now)) → next ≡ drop (get_or fs i d).width now → Read fs whole (set values i v) (i + 1) n next
 unfolding values_in
 read_more fs whole values i n now next d v r h l e f =
     let k : i < length values = omega (arith, r.count) in
+    let q = r.values in
     let a = take_more_set values i v k in
-    let b : values_in (drop i fs) now ≡ v ∷ values_in (drop (i + 1) fs) next = ap (λ (gs : List Field). values_in gs now) (drop_more fs i d h) ∙ rw (e, f) in
-    let s = read_width fs i d h in
-    record {
-      values = r.values ∙ (ap (λ (l : List ℕ). take i values ++ l) b ∙ (sym (append_assoc (take i values) (v ∷ []) (values_in (drop (i + 1) fs) next)) ∙ ap (λ (l : List ℕ). l ++ values_in (drop (i + 1) fs) next) (sym a)));
-      room = rw f (simp length-drop (omega (arith, r.room)));
-      count = length-set values i v ∙ r.count;
-    }
+    let b = drop_more fs i d h in
+    let c = append_assoc (take i values) (v ∷ []) (values_in (drop (i + 1) fs) next) in
+    record { values = cc; room = rw f (simp length-drop (omega (arith, r.room, read_width fs i d h))); count = simp length-set r.count }
 
 pub read_all : (fs : List Field) (whole values : List ℕ) (i n : ℕ) (now : List ℕ) → Read fs whole values i n now → length fs ≤ i → n ≤ i → values ≡ values_in fs whole
 unfolding values_in
 read_all fs whole values i n now r h l =
     let k : length values ≤ i = omega (arith, r.count) in
-    let a = take_all i values k in
-    let b = drop_all i fs h in
-    sym (r.values ∙ (ap (λ (gs : List Field). take i values ++ values_in gs now) b ∙ (append-nil (take i values) ∙ a)))
+    sym (rw (drop_all i fs h, append-nil, take_all i values k) at r.values)
 
 -- the loop that checks: the fields and values that are left decide
 pub record Checked (whole : Option Fault) (nth i : ℕ) (fs : List Field) (vs : List ℕ) : Type 0 where
@@ -90,8 +82,8 @@ pub wrote_more : (whole : List ℕ) (m : ℕ) (now next : List ℕ) (f : Field) 
 unfolding packed
 wrote_more whole m now next f fs v vs r e =
     record {
-      bits = r.bits ∙ (sym (append_assoc now (bits_of f.width v) (packed fs vs)) ∙ ap (λ (x : List ℕ). x ++ packed fs vs) (sym e));
-      room = omega (arith, r.room, ap length e, length-append now (bits_of f.width v), length-bits_of f.width v);
+      bits = rw (e, append_assoc) r.bits;
+      room = rw e (simp (length-append, length-bits_of) (omega (arith, r.room)));
       narrow = r.narrow.2;
       count = omega (arith, r.count);
     }
