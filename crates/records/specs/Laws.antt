@@ -1,9 +1,11 @@
 -- The kinds of records obey the laws of rows. Assumes nothing.
-use Rattle.std.proofs.Common.{◌≡◌, ℕ, zero, suc, List, [], ◌∷◌, length, get_or, refl, ap, ◌∙◌, arith, lit<, lit≤}
+use Rattle.std.proofs.Common.{◌≡◌, ℕ, zero, suc, List, [], ◌∷◌, length, get_or, refl, arith, lit<, lit≤}
 use Rattle.bits.specs.Layout.{values_in, AllKeep}
-use Rattle.bits.specs.Rows.{Lawful, Sized}
+use Rattle.bits.specs.Rows.{Alike, Lawful, Sized}
+use Rattle.bits.specs.declared.field.Field.{Field}
 use Rattle.bits.proofs.Laws.{keep_at}
 use Rattle.bits.proofs.Trips.{packed_same}
+use Rattle.bits.proofs.Turns.{narrow_all}
 use Rattle.bits.proofs.Twos.{untwos-twos, twos-untwos, untwos_near, extended_lt}
 use Rattle.records.specs.Bills.{bill_fields, bill_values, bill_named, bill_form}
 use Rattle.records.specs.Elements.{element_form}
@@ -19,23 +21,25 @@ names (suc n) i vs = get_or vs i 0 ∷ names n (suc i) vs
 
 names_past : (n i v : ℕ) (vs : List ℕ) → names n (suc i) (v ∷ vs) ≡ names n i vs
 names_past zero i v vs = refl
-names_past (suc n) i v vs = ap (λ (l : List ℕ). get_or vs i 0 ∷ l) (names_past n (suc i) v vs)
+names_past (suc n) i v vs = rw (names_past n (suc i) v vs)
 
 pub names_all : (n : ℕ) (vs : List ℕ) → length vs ≡ n → names n 0 vs ≡ vs
 names_all zero [] h = refl
 names_all zero (v ∷ vs) h = absurd (omega arith)
 names_all (suc n) [] h = absurd (omega arith)
-names_all (suc n) (v ∷ vs) h =
-    let k : length vs ≡ n = omega arith in
-    ap (λ (l : List ℕ). v ∷ l) (names_past n 0 v vs ∙ names_all n vs k)
+names_all (suc n) (v ∷ vs) h = rw (names_past n 0 v vs, names_all n vs (omega arith))
+
+-- a row lies as it does
+alike_self : (fs : List Field) → Alike fs fs
+alike_self fs = record { count = refl; span = refl; values = λ bs. refl; bits = λ us. refl }
 
 pub element_lawful : Lawful element_form
 unfolding element_form
 element_lawful =
     record {
-      narrow = (lit≤ tt, lit≤ tt, (lit≤ tt, lit≤ tt, (lit≤ tt, lit≤ tt, tt)));
+      narrow = narrow_all (element_form.fields []) refl;
       whole = refl;
-      alike = λ vs. record { count = refl; span = refl; values = λ bs. refl; bits = λ us. refl };
+      alike = λ vs. alike_self _;
       count = λ x. refl;
       back = λ x h. refl;
       forth = λ vs n k. names_all 3 vs n;
@@ -56,12 +60,12 @@ pub use_lawful : Lawful use_form
 unfolding use_form
 use_lawful =
     record {
-      narrow = (lit≤ tt, lit≤ tt, (lit≤ tt, lit≤ tt, (lit≤ tt, lit≤ tt, (lit≤ tt, lit≤ tt, tt))));
+      narrow = narrow_all (use_form.fields []) refl;
       whole = refl;
-      alike = λ vs. record { count = refl; span = refl; values = λ bs. refl; bits = λ us. refl };
+      alike = λ vs. alike_self _;
       count = λ x. refl;
       back = λ x h. refl;
-      forth = λ vs n k. use_back vs n k;
+      forth = use_back;
       limited = λ vs n k. tt;
     }
 
@@ -79,12 +83,12 @@ pub point_lawful : Lawful point_form
 unfolding point_form
 point_lawful =
     record {
-      narrow = (lit≤ tt, lit≤ tt, (lit≤ tt, lit≤ tt, (lit≤ tt, lit≤ tt, (lit≤ tt, lit≤ tt, (lit≤ tt, lit≤ tt, (lit≤ tt, lit≤ tt, tt))))));
+      narrow = narrow_all (point_form.fields []) refl;
       whole = refl;
-      alike = λ vs. record { count = refl; span = refl; values = λ bs. refl; bits = λ us. refl };
+      alike = λ vs. alike_self _;
       count = λ x. refl;
       back = λ x h. refl;
-      forth = λ vs n k. point_back vs n k;
+      forth = point_back;
       limited = λ vs n k. tt;
     }
 
@@ -110,23 +114,19 @@ near vs n k =
     )
 
 residues_back : (h : Header) → ResiduesNear h → header_named (header_values h) ≡ h
-residues_back h (a, b) =
-    let e = untwos-twos 10000000000 h.locational_residue (lit< tt) a in
-    let f = untwos-twos 10000000000 h.other_residue (lit< tt) b in
-    rw (e, f)
+residues_back h (a, b) = rw (untwos-twos 10000000000 h.locational_residue (lit< tt) a, untwos-twos 10000000000 h.other_residue (lit< tt) b)
 
 pub header_lawful : Lawful header_form
 unfolding header_form values_in
 header_lawful =
     record {
-      narrow =
-          (lit≤ tt, lit≤ tt, (lit≤ tt, lit≤ tt, (lit≤ tt, lit≤ tt, (lit≤ tt, lit≤ tt, (lit≤ tt, lit≤ tt, (lit≤ tt, lit≤ tt, (lit≤ tt, lit≤ tt, (lit≤ tt, lit≤ tt, (lit≤ tt, lit≤ tt, (lit≤ tt, lit≤ tt, (lit≤ tt, lit≤ tt, tt)))))))))));
+      narrow = narrow_all (header_form.fields []) refl;
       whole = refl;
       alike = λ vs. record { count = refl; span = refl; values = λ bs. refl; bits = λ us. packed_same (header_fields vs) (header_row 0) refl us };
       count = λ x. refl;
       back = λ h i. residues_back h i.1;
-      forth = λ vs n k. header_back vs n k;
-      limited = λ vs n k. near vs n k;
+      forth = header_back;
+      limited = near;
     }
 
 pub header_sized : Sized header_form 11 27
@@ -144,13 +144,12 @@ pub bill_lawful : Lawful bill_form
 unfolding bill_form values_in
 bill_lawful =
     record {
-      narrow =
-          (lit≤ tt, lit≤ tt, (lit≤ tt, lit≤ tt, (lit≤ tt, lit≤ tt, (lit≤ tt, lit≤ tt, (lit≤ tt, lit≤ tt, (lit≤ tt, lit≤ tt, (lit≤ tt, lit≤ tt, (lit≤ tt, lit≤ tt, (lit≤ tt, lit≤ tt, (lit≤ tt, lit≤ tt, (lit≤ tt, lit≤ tt, (lit≤ tt, lit≤ tt, (lit≤ tt, lit≤ tt, tt)))))))))))));
+      narrow = narrow_all (bill_form.fields []) refl;
       whole = refl;
       alike = λ vs. record { count = refl; span = refl; values = λ bs. refl; bits = λ us. packed_same (bill_fields vs) (bill_fields []) refl us };
       count = λ x. refl;
       back = λ b i. refl;
-      forth = λ vs n k. bill_back vs n k;
+      forth = bill_back;
       limited = λ vs n k. tt;
     }
 
