@@ -1,7 +1,7 @@
 -- A few bits at a time. Assumes nothing.
 use Rattle.std.proofs.Common.{◌≡◌, ℕ, zero, suc, ◌+◌, ◌-◌, ◌*◌, ◌/◌, ◌%◌, ◌^◌, ◌<◌, ◌≤◌, List, [], ◌∷◌, ◌++◌, length, get_or, take, drop, set, sym, refl, ap, mod-eq_of_lt, mul_assoc, mul_comm, add-mul, arith, pow_mono}
 use native.Mathlib.Nat.{mod-mod}
-use Rattle.std.proofs.lemmas.List.{length-append, append_assoc, append-nil, take_at, drop_at, drop-drop, take_rest, take_all, take_more_set, length-drop, length-take, length-take-le}
+use Rattle.std.proofs.lemmas.List.{length-append, append_assoc, append-nil, take_at, drop_at, drop-drop, take_all, take_more_set, length-drop, length-take, length-take-le}
 use Rattle.std.proofs.lemmas.Nat.{pow_pos, pow-add, mod_below, one_shl, shl_whole, mul-add-lt, shr_high, mod_low}
 use Rattle.std.proofs.Math.Seq.{take-add}
 use Rattle.bits.specs.Bits.{bits, bits_of, number, bytes_of}
