@@ -1,5 +1,6 @@
 -- The first fault at a run of places, step by step. Assumes nothing.
 use Rattle.std.proofs.Common.{◌≡◌, ℕ, zero, suc, ◌+◌, ◌<◌, Bool, true, false, ◌⊎◌, Some, None, Option, sym, refl, ap, ◌∙◌, zero-add, arith}
+use Rattle.std.specs.Option.{option_map}
 use Rattle.bits.specs.declared.fault.Fault.{Fault}
 use Rattle.agreement.specs.Together.{first_fault_among, unless}
 
@@ -23,13 +24,18 @@ pub none_each : (n : ℕ) (fault_at : ℕ → Option Fault) → ((k : ℕ) → k
 none_each n fault_at h = none_all n 0 fault_at (λ k l. ap fault_at (zero-add k) ∙ h k l)
 
 -- the first place whose test fails has the first fault
-pub first_failing : (n k : ℕ) (test : ℕ → Bool) (fault : ℕ → Fault) → k < n → test k ≡ false → ((j : ℕ) → j < k → test j ≡ true) → Some (fault k) ≡ first_fault_among n 0 (λ i. unless (test i) (fault i))
+first_failing : (n k : ℕ) (test : ℕ → Bool) (fault : ℕ → Fault) → k < n → test k ≡ false → ((j : ℕ) → j < k → test j ≡ true) → Some (fault k) ≡ first_fault_among n 0 (λ i. unless (test i) (fault i))
 first_failing n k test fault l fails before =
     let here : unless (test (0 + k)) (fault (0 + k)) ≡ Some (fault k) = rw (zero-add k, fails) in
     sym (first_at n 0 k (λ i. unless (test i) (fault i)) (fault k) l here (λ j m. rw (zero-add j, before j m)))
 
 pub none_failing : (n : ℕ) (test : ℕ → Bool) (fault : ℕ → Fault) → ((k : ℕ) → k < n → test k ≡ true) → None ≡ first_fault_among n 0 (λ i. unless (test i) (fault i))
 none_failing n test fault h = sym (none_each n (λ i. unless (test i) (fault i)) (λ k l. rw (h k l)))
+
+-- the fault at the first place whose test fails, or none where each passes
+pub fault_at_first : (n : ℕ) (place : Option ℕ) (test : ℕ → Bool) (fault : ℕ → Fault) {given : ℕ → Fault} → ((i : ℕ) → given i ≡ fault i) → ((i : ℕ) → place ≡ Some i → (i < n) × (test i ≡ false) × ((j : ℕ) → j < i → test j ≡ true)) → (place ≡ None → (k : ℕ) → k < n → test k ≡ true) → option_map given place ≡ first_fault_among n 0 (λ i. unless (test i) (fault i))
+fault_at_first n (Some i) test fault same some none = let s = some i refl in ap Some (same i) ∙ first_failing n i test fault s.0 s.1 s.2
+fault_at_first n None test fault same some none = none_failing n test fault (none refl)
 
 -- where every place has one and the same fault or none, one place with it is enough
 pub first_some : (n i k : ℕ) (fault_at : ℕ → Option Fault) (x : Fault) → ((j : ℕ) → (fault_at j ≡ None) ⊎ (fault_at j ≡ Some x)) → k < n → fault_at (i + k) ≡ Some x → first_fault_among n i fault_at ≡ Some x

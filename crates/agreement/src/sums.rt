@@ -15,6 +15,7 @@ use records::point::Point;
 // The most that the uses of one element come to, in kW.
 const MAX_USE: u64 = 10_000_000;
 
+// At most 64 points are required: this crate stands below the checked year, whose type guarantees it.
 pub fn point_totals(points: &[Point]) -> PointTotals
     requires { length points.now ≤ 64 }
     ensures entry { result.entry_cost ≡ entry_cost_of points.now }
@@ -59,7 +60,7 @@ pub(crate) fn check_used(uses: &[NetworkUse], elements: usize) -> Result<(), Fau
     requires named { (k : ℕ) → k < length uses.now → (slice_index_or uses.now k no_use).element < elements }
     ensures { result_err result ≡ overused_fault elements uses.now }
 {
-    // A total for each element that a year has room for, found by its place.
+    // An array by place, since nothing is taken from the heap: a total for each element that a year has room for.
     let mut used = [0u64; 256];
     for network_use in uses {
         let total = &mut used[usize::from(network_use.element)];
