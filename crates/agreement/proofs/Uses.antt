@@ -1,5 +1,5 @@
 -- The uses of each element, step by step. Assumes nothing.
-use Rattle.std.proofs.Common.{◌≡◌, ℕ, zero, suc, ◌+◌, ◌-◌, ◌<◌, ◌≤◌, Bool, true, ltb, ◌&&◌, ◌⊎◌, List, length, get_or, take, slice_get, replicate, Some, None, sum_by, sym, refl, ap, ◌∙◌, inl, inr, ⊎_elim, zero-add, arith}
+use Rattle.std.proofs.Common.{◌≡◌, ℕ, zero, suc, ◌+◌, ◌-◌, ◌<◌, ◌≤◌, Bool, true, ◌||◌, eqb, ◌⊎◌, List, length, get_or, take, slice_get, replicate, Some, None, sum_by, sym, refl, ap, inl, inr, ⊎_elim, zero-add, arith}
 use Rattle.std.proofs.lemmas.List.{take_all, get_or-take, length-take-le, length-replicate, get_or-replicate}
 use Rattle.std.proofs.lemmas.Option.{slice_get-get_or}
 use Rattle.std.proofs.lemmas.List.Sums.{sum_by_more, sum_by-take-le}
@@ -10,7 +10,7 @@ use Rattle.records.specs.declared.network_use.NetworkUse.{NetworkUse}
 use Rattle.agreement.specs.Totals.{drawn, total_use}
 use Rattle.agreement.proofs.Firsts.{first_some, none_each}
 use Rattle.std.specs.Option.{option_map_or}
-use Rattle.agreement.specs.Together.{no_use, rank, placed_at, over_fault, overused_fault, unless}
+use Rattle.agreement.specs.Together.{no_use, over_fault, overused_fault, unless}
 
 -- the uses of each element among the first i uses, none above the limit
 pub record Used (us : List NetworkUse) (i : ℕ) (used : List ℕ) : Type 0 where
@@ -43,11 +43,11 @@ module _ (us : List NetworkUse) (i : ℕ) (used : List ℕ) (so : Used us i used
       let own : drawn e (get_or us i no_use) ≡ (get_or us i no_use).demand = grind (arith, nat_tests) in
       overused elements us e l (omega (arith, so.totals e (omega arith), sum_by_more (drawn e) us i no_use h, sum_by-take-le (drawn e) us (i + 1)))
 
--- a use is held against the last of those before it
-pub placed_after : (points elements : ℕ) (us : List NetworkUse) (i : ℕ) → i < length us → (ltb (get_or us i no_use).element elements && ltb (get_or us i no_use).point points && option_map_or (λ b. ltb (rank b) (rank (get_or us i no_use))) (slice_get (take i us) (length (take i us) - 1)) true) ≡ placed_at points elements us i
-placed_after points elements us zero l = refl
-placed_after points elements us (suc i) l =
-    let t : length (take (suc i) us) - 1 ≡ i = omega (arith, length-take-le (suc i) us (omega arith)) in
-    let g : slice_get (take (suc i) us) i ≡ Some (get_or us i no_use) = slice_get-get_or (take (suc i) us) i no_use (omega (arith, length-take-le (suc i) us (omega arith))) ∙ ap Some (get_or-take (suc i) us i no_use (omega arith)) in
+-- the last of the first i uses, if there is one, is the one before the use at place i
+pub last_before : (us : List NetworkUse) (test : NetworkUse → Bool) (i : ℕ) → i < length us → option_map_or test (slice_get (take i us) (length (take i us) - 1)) true ≡ (eqb i 0 || test (get_or us (i - 1) no_use))
+last_before us test zero l = refl
+last_before us test (suc i) l =
+    let t = length-take-le (suc i) us (omega arith) in
     let s : suc i - 1 ≡ i = omega arith in
-    rw (t, g, s) (grind (arith, nat_tests))
+    let e : length (take (suc i) us) - 1 ≡ i = omega (arith, t) in
+    rw (e, s, slice_get-get_or (take (suc i) us) i no_use (omega (arith, t)), get_or-take (suc i) us i no_use (omega arith)) (grind (arith, nat_tests))
