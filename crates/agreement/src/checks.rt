@@ -15,7 +15,10 @@ fn refuse_at(place: Option<usize>, before: usize, refusal: Refusal) -> Result<()
     requires { MatchOption place ⊤ (λ i. before + i + 1 < 2 ^ 16) }
     ensures { result_err result ≡ option_map (λ i. year_fault refusal (before + i + 1)) place }
 {
-    place.map_or(Ok(()), |i| Err(Fault::year(refusal, (before + i + 1) as u16)))
+    place.map_or(
+        Ok(()),
+        |i| Err(Fault::year(refusal, (before + i + 1) as u16)),
+    )
 }
 
 // Whether no point has this identifier.
@@ -57,9 +60,11 @@ pub(crate) fn check_uses(uses: &[NetworkUse], points: usize, elements: usize) ->
     requires { (length uses.now ≤ 4096) × ((points ≤ 64) × (elements ≤ 256)) }
     ensures { result_err result ≡ misplaced_fault points elements uses.now }
 {
-    let misplaced = uses
-        .iter()
-        .enumerate()
-        .position(|(i, used)| !is_placed(used, uses[..i].last(), points, elements));
+    let misplaced = uses.iter().enumerate().position(|(i, used)| !is_placed(
+        used,
+        uses[..i].last(),
+        points,
+        elements,
+    ));
     refuse_at(misplaced, points + elements, Refusal::UseMisplaced)
 }
