@@ -60,11 +60,9 @@ pub(crate) fn check_uses(uses: &[NetworkUse], points: usize, elements: usize) ->
     requires { (length uses.now ≤ 4096) × ((points ≤ 64) × (elements ≤ 256)) }
     ensures { result_err result ≡ misplaced_fault points elements uses.now }
 {
-    let misplaced = uses.iter().enumerate().position(|(i, used)| !is_placed(
-        used,
-        uses[..i].last(),
-        points,
-        elements,
-    ));
+    let misplaced = uses.iter().enumerate().position(|(i, used)| {
+        let before = uses[..i].last();
+        !is_placed(used, before, points, elements)
+    });
     refuse_at(misplaced, points + elements, Refusal::UseMisplaced)
 }
