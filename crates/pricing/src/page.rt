@@ -6,14 +6,14 @@ use std::fmt;
 
 // The average locational price of a year and the price at each place, in thousandths of a cent per kW; zero past the last
 // point, and all zero where no year was opened: by the rules a zero sets no bound, so an `Option` would be no plainer.
-#[derive(Clone, Copy, Debug, PartialEq, Eq)]
+#[derive(Clone, Copy)]
 pub struct LocationalPrices {
     pub average: u64,
     pub prices: [u64; 64],
 }
 
 // The five yearly charges of a connection point, in cents.
-#[derive(Clone, Copy, Debug, PartialEq, Eq)]
+#[derive(Clone, Copy)]
 pub struct PointCharges {
     pub identifier: u16,
     pub entry: u64,
@@ -41,7 +41,7 @@ impl fmt::Display for PointCharges {
     }
 }
 
-#[derive(Clone, Copy, Debug, PartialEq, Eq)]
+#[derive(Clone, Copy)]
 pub struct Page {
     pub year: u16,
     pub points: usize,
