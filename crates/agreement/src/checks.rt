@@ -3,7 +3,7 @@ ghost use Rattle.std.specs.Prelude.{◌≡◌, ⊤, ◌+◌, ◌^◌, ◌<◌, �
 ghost use Rattle.std.specs.Option.{option_copied, option_map, option_map_or, MatchOption};
 ghost use Rattle.std.specs.Result.{result_err};
 ghost use Rattle.bits.specs.Faults.{year_fault};
-ghost use Rattle.agreement.specs.Together.{free, rank, placed_at, repeated_fault, misplaced_fault};
+ghost use Rattle.agreement.specs.Together.{free, rank, repeated_fault, misplaced_fault};
 
 use bits::fault::Fault;
 use bits::refusal::Refusal;
