@@ -45,9 +45,6 @@ pub record Taken (whole : List ℕ) (w value left : ℕ) (now : List ℕ) : Type
   pub small : value < 2 ^ (w - left)
   pub bound : left ≤ w
 
-pub taken_none : (whole : List ℕ) (w : ℕ) → w ≤ length whole → Taken whole w 0 w whole
-taken_none whole w h = record { number = omega arith; after = refl; room = h; small = omega (arith, pow_pos (w - w)); bound = omega arith }
-
 taken_lt : (w left k value p : ℕ) → value < 2 ^ (w - left) → p < 2 ^ k → k ≤ left → left ≤ w → value * 2 ^ k + p < 2 ^ (w - (left - k))
 taken_lt w left k value p h q l b =
     let e : w - (left - k) ≡ (w - left) + k = omega arith in

@@ -8,8 +8,8 @@ use Rattle.bits.specs.Rows.{Stands, Lawful, Kept}
 use Rattle.bits.specs.Layout.{packed, first_bad, AllKeep}
 use Rattle.bits.specs.declared.fault.Fault.{Fault}
 use Rattle.bits.specs.declared.field.Field.{Field}
-use Rattle.bits.proofs.Digits.{Bytes, length-bytes_of, bytes_bytes_of}
-use Rattle.bits.proofs.Laws.{length_values, binary_packed, none_bad, all_kept, reads_back, writes_back}
+use Rattle.bits.proofs.Digits.{Bytes, length-bytes_of}
+use Rattle.bits.proofs.Laws.{length_values, none_bad, all_kept, reads_back, writes_back}
 
 abbrev pub widths : List Field → List ℕ
 widths [] = []
@@ -28,10 +28,6 @@ packed_same (f ∷ fs) (g ∷ gs) e (v ∷ vs) = let i = packed_same fs gs (cc) 
 pub length_record : {X : Type 0} (F : Form X) (x : X) → length (record_bytes F x) ≡ F.size
 unfolding record_bytes
 length_record F x = length-bytes_of F.size (packed (F.fields []) (F.values x))
-
-pub bytes_record : {X : Type 0} (F : Form X) (x : X) → Bytes (record_bytes F x)
-unfolding record_bytes
-bytes_record F x = bytes_bytes_of F.size (packed (F.fields []) (F.values x)) (binary_packed (F.fields []) (F.values x))
 
 -- a record that keeps its ranges is read back from its bytes
 pub written_read : {X : Type 0} (F : Form X) → Lawful F → (place : ℕ) (x : X) → InRange F x → (record_fault F place (record_bytes F x) ≡ None) × (record_of F (record_bytes F x) ≡ x)

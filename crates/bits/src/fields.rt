@@ -86,7 +86,7 @@ impl<const N: usize> Layout<N> {
     {
         let mut bits = Reader::new(bytes);
         let mut values = [0; N];
-        // By `map` the closure would read on, and nothing would be known of what it gives.
+        // By `map` the closure would read on, and want clauses of its own for its field and for what is left to read.
         for (i, field) in self.fields.iter().enumerate() {
             values[i] = field.meaning(bits.take(field.width));
         }

@@ -1,4 +1,4 @@
-use Rattle.std.proofs.Common.{◌≡◌, ℕ, ◌+◌, List, get_or, sym, ap, arith, rules}
+use Rattle.std.proofs.Common.{◌≡◌, ℕ, List, get_or, sym, ap, arith, rules}
 use Rattle.std.proofs.lemmas.List.{drop-drop}
 use Rattle.bits.specs.Bits.{bits}
 use Rattle.bits.proofs.Pieces.{piece_given, byte_done, some_bytes}
