@@ -3,7 +3,7 @@
 ghost use Rattle.std.specs.Prelude.{◌≡◌, ℕ, ◌+◌, ◌-◌, ◌*◌, ◌%◌, ◌^◌, ◌<◌, ◌≤◌, length, slice_index, IfOk, OnOk};
 ghost use Rattle.std.specs.Result.{result_err};
 ghost use Rattle.bits.specs.Bits.{bits, bytes_of};
-ghost use Rattle.bits.specs.Layout.{plain, free, only, signed, meaning, keeps, values_in, packed, span, first_bad, AllKeep};
+ghost use Rattle.bits.specs.Layout.{plain, free, only, signed, meaning, keeps, values_in, packed, span, first_bad, AllKeep, Narrow};
 ghost use Rattle.bits.specs.Laid.{room_fault, laid};
 
 use crate::fault::Fault;
@@ -77,47 +77,84 @@ impl Field {
     }
 }
 
+// The values that bytes hold in a row of fields.
+pub fn decode<const N: usize>(fields: &[Field], bytes: &[u8]) -> [u64; N]
+    requires narrow { Narrow fields.now }
+    requires count { length fields.now ≡ N }
+    requires room { span fields.now ≤ 8 * length bytes.now }
+    ensures { result ≡ values_in fields.now (bits bytes.now) }
+{
+    let mut bits = Reader::new(bytes);
+    let mut values = [0; N];
+    // By `map` the closure would read on, and want clauses of its own for its field and for what is left to read.
+    for (i, field) in fields.iter().enumerate() {
+        values[i] = field.meaning(bits.take(field.width));
+    }
+    values
+}
+
+// Holds the values of a record against their ranges.
+pub fn check(fields: &[Field], values: &[u64], record: u16) -> Result<(), Fault>
+    requires narrow { Narrow fields.now }
+    requires count { length fields.now ≡ length values.now }
+    requires few { length fields.now < 256 }
+    ensures fault { result_err result ≡ first_bad «record» 1 fields.now values.now }
+    ensures kept { OnOk result (AllKeep fields.now values.now) }
+{
+    for (i, (field, value)) in fields.iter().zip(values).enumerate() {
+        if !field.keeps(*value) {
+            return Err(Fault::outside(record, i as u8 + 1));
+        }
+    }
+    Ok(())
+}
+
+// The bytes of a row of values.
+pub fn encode<const M: usize>(fields: &[Field], values: &[u64]) -> [u8; M]
+    requires narrow { Narrow fields.now }
+    requires count { length fields.now ≡ length values.now }
+    requires whole { span fields.now ≡ 8 * M }
+    requires small { M < 2 ^ 32 }
+    ensures { result ≡ bytes_of M (packed fields.now values.now) }
+{
+    let mut bits = Writer::new();
+    for (field, value) in fields.iter().zip(values) {
+        bits.put(*value, field.width);
+    }
+    bits.finish()
+}
+
+// The same over a layout, whose fields are narrow and as many as the values by its type. Inlined, so that a layout which hangs
+// on no value is a table of constants.
 impl<const N: usize> Layout<N> {
     // The values that bytes hold.
+    #[inline(always)]
     pub fn decode(&self, bytes: &[u8]) -> [u64; N]
         requires { span self.now.fields ≤ 8 * length bytes.now }
         ensures value { result ≡ values_in self.now.fields (bits bytes.now) }
         ensures eight { (k : ℕ) → slice_index bytes.now k < 2 ^ 8 }
     {
-        let mut bits = Reader::new(bytes);
-        let mut values = [0; N];
-        // By `map` the closure would read on, and want clauses of its own for its field and for what is left to read.
-        for (i, field) in self.fields.iter().enumerate() {
-            values[i] = field.meaning(bits.take(field.width));
-        }
-        values
+        decode(&self.fields, bytes)
     }
 
     // Holds the values of a record against their ranges.
+    #[inline(always)]
     pub fn check(&self, values: &[u64; N], record: u16) -> Result<(), Fault>
         requires { N < 256 }
         ensures fault { result_err result ≡ first_bad «record» 1 self.now.fields values.now }
         ensures kept { OnOk result (AllKeep self.now.fields values.now) }
     {
-        for (i, (field, value)) in self.fields.iter().zip(values).enumerate() {
-            if !field.keeps(*value) {
-                return Err(Fault::outside(record, i as u8 + 1));
-            }
-        }
-        Ok(())
+        check(&self.fields, values, record)
     }
 
     // The bytes of a row of values.
+    #[inline(always)]
     pub fn encode<const M: usize>(&self, values: &[u64; N]) -> [u8; M]
         requires whole { span self.now.fields ≡ 8 * M }
         requires small { M < 2 ^ 32 }
         ensures { result ≡ bytes_of M (packed self.now.fields values.now) }
     {
-        let mut bits = Writer::new();
-        for (field, value) in self.fields.iter().zip(values) {
-            bits.put(*value, field.width);
-        }
-        bits.finish()
+        encode(&self.fields, values)
     }
 }
 

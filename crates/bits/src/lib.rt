@@ -10,5 +10,6 @@ pub mod reader;
 pub mod reads;
 pub mod refusal;
 pub mod row;
+pub mod rows;
 pub mod writer;
 pub mod writes;

@@ -1,5 +1,6 @@
 // An allocation method: for each pool, the amount of every point and the part of every element.
 ghost use Rattle.std.specs.Prelude.{◌≡◌, ℕ, ◌≤◌, List, length, sum};
+ghost use Rattle.std.specs.Result.{result_unwrap_or};
 ghost use Rattle.methods.specs.Asked.{asked, asked_all};
 
 use bits::refusal::Refusal;
@@ -43,8 +44,19 @@ pub trait Method {
         if pool > MAX_POOL {
             return Err(Refusal::ArgumentOutOfRange);
         }
-        // Past the last point an amount is refused, and stands for zero.
-        Ok(array::from_fn(|place| self.amount(pool, place).unwrap_or(0)))
+        // Past the last point stands zero, and no amount is asked for.
+        let count = self.points();
+        Ok(array::from_fn(
+            |place|
+                ensures { result ≡ result_unwrap_or (asked count pool place (amounts self.entry.now pool)) 0 }
+            {
+                if place < count {
+                    self.amount(pool, place).unwrap_or(0)
+                } else {
+                    0
+                }
+            },
+        ))
     }
 
     // One point to 64.

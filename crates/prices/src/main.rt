@@ -24,7 +24,11 @@ fn main(rt: HostRuntime) -> anyhow::Result<()> {
     rt.stdin().take(MOST_BYTES).read_to_end(&mut file)?;
     let mut year = Year::new(rt.alloc())?;
     match page_of(&mut year, &file) {
-        Ok(page) => println!(&rt; "{page}")?,
+        Ok(page) => {
+            for line in (0..usize::MAX).map_while(|place| page.line(place)) {
+                println!(&rt; "{line}")?;
+            }
+        }
         Err(refusal) => println!(&rt; "{refusal}")?,
     }
     Ok(())

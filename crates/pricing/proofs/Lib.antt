@@ -7,3 +7,4 @@ pub mod Bounded
 pub mod Adding
 pub mod Working
 pub mod Opening
+pub mod Lines

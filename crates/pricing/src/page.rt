@@ -1,6 +1,7 @@
 // What the page of a year says.
-ghost use Rattle.std.specs.Prelude.{Some};
-ghost use Rattle.pricing.specs.Printed.{charges_text, page_text};
+ghost use Rattle.std.specs.Prelude.{◌≡◌, Some, ◌++◌, codes};
+ghost use Rattle.std.specs.List.{flat_map, slice_get};
+ghost use Rattle.pricing.specs.Printed.{charges_text, left_of, line_text, page_lines, page_text};
 
 use std::fmt;
 
@@ -65,9 +66,55 @@ impl fmt::Display for Page {
         for charges in self.charges.iter().take(self.points) {
             writeln!(f, "{charges}")?;
         }
-        let left = self
-            .non_locational_remainder
-            .saturating_add(self.common_remainder);
-        write!(f, "left {left}")
+        write!(f, "left {}", self.left())
+    }
+}
+
+// A line of a page.
+#[derive(Clone, Copy)]
+pub enum Line {
+    Heading { year: u16, points: usize },
+    Charges(PointCharges),
+    Left(u64),
+}
+
+// In decimal, without the end of the line.
+impl fmt::Display for Line {
+    ghost output = { λ l. Some (line_text l) };
+
+    fn fmt<W: fmt::Write>(&self, f: &mut fmt::Formatter<W>) -> fmt::Result {
+        match self {
+            Line::Heading { year, points } => write!(f, "{year} {points}"),
+            Line::Charges(charges) => write!(f, "{charges}"),
+            Line::Left(cents) => write!(f, "left {cents}"),
+        }
+    }
+}
+
+impl Page {
+    // What both spreads left, or the largest number where it is more.
+    fn left(&self) -> u64
+        ensures { result ≡ left_of self.now }
+    {
+        self.non_locational_remainder
+            .saturating_add(self.common_remainder)
+    }
+
+    // The line at a place, from 0 on. The lines, each with its end, are the text of the page.
+    #[tactic(auto, using(crate::proofs::Lines::whole))]
+    pub fn line(&self, place: usize) -> Option<Line>
+        ensures line { result ≡ slice_get (page_lines self.now) place }
+        ensures text { flat_map (λ l. line_text l ++ codes "\n") (page_lines self.now) ≡ page_text self.now ++ codes "\n" }
+    {
+        let rows = self.points.min(64);
+        match place.checked_sub(1) {
+            None => Some(Line::Heading {
+                year: self.year,
+                points: self.points,
+            }),
+            Some(row) if row < rows => Some(Line::Charges(self.charges[row])),
+            Some(row) if row == rows => Some(Line::Left(self.left())),
+            Some(_) => None,
+        }
     }
 }

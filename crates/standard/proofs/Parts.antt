@@ -1,12 +1,12 @@
 -- The parts of the elements, by their portions of the costs. Assumes nothing.
-use Rattle.std.proofs.Common.{◌≡◌, ℕ, ◌+◌, ◌≤◌, List, [], ◌∷◌, map, length, sum, sum_by, Some, None, Ok, Err, sym, refl, ap, ◌∙◌, arith}
+use Rattle.std.proofs.Common.{◌≡◌, ℕ, ◌+◌, ◌<◌, ◌≤◌, List, [], ◌∷◌, map, length, sum, sum_by, Some, None, Option, Ok, sym, refl, ap, ◌∙◌, arith}
 use Rattle.std.specs.List.{slice_get}
+use Rattle.std.specs.Option.{IsSome, option_map}
 use Rattle.std.proofs.lemmas.Bool.Decides.{nat_tests}
 use Rattle.std.proofs.lemmas.Option.{slice_get-map, slice_get_within, slice_get-get_or, get_or_from_slice_get}
 use Rattle.std.proofs.lemmas.List.Sums.{sum_by-cons}
 use Rattle.agreement.specs.Together.{no_element}
 use Rattle.agreement.specs.Data.{YearData}
-use Rattle.bits.specs.declared.refusal.Refusal.TheVariants.{ArgumentOutOfRange}
 use Rattle.methods.specs.Asked.{asked}
 use Rattle.money.specs.Sharing.{shares_after, shares_of}
 use Rattle.records.specs.declared.element.Element.{Element}
@@ -54,8 +54,10 @@ module _ (rule : ℕ → Element → ℕ) (pool : ℕ) where
         let long = length-portions (λ (e : Element). e.cost) (sum (costs es)) 0 es in
         grind (arith, nat_tests, parts_are es, slice_get_within, slice_get-map (reduced_part rule pool) (portions (λ (e : Element). e.cost) (sum (costs es)) 0 es) place, get_or_from_slice_get (map (reduced_part rule pool) (portions (λ (e : Element). e.cost) (sum (costs es)) 0 es)) place (reduced_part rule pool x) 0)
 
-    -- past the last element there is none
-    pub part_past : slice_get (portions (λ (e : Element). e.cost) (sum (costs es)) 0 es) place ≡ None → asked (length es) pool place (parts_of rule es pool) ≡ Err ArgumentOutOfRange
-    part_past none =
+    -- the walk comes to each element that is there
+    pub part_comes : {A : Type 0} (v : A → Portioned Element) (r : Option A) → option_map v r ≡ slice_get (portions (λ (e : Element). e.cost) (sum (costs es)) 0 es) place → place < length es → IsSome r
+    part_comes v (Some x) e h = refl
+    part_comes v None e h =
         let long = length-portions (λ (e : Element). e.cost) (sum (costs es)) 0 es in
-        grind (arith, nat_tests, slice_get-get_or (portions (λ (e : Element). e.cost) (sum (costs es)) 0 es) place first)
+        let there = slice_get-get_or (portions (λ (e : Element). e.cost) (sum (costs es)) 0 es) place first (omega arith) in
+        cc

@@ -84,10 +84,12 @@ impl<Y: Lends, R: Rule> Method for Allocation<Y, R> {
     }
 
     fn part(&self, pool: u64, place: usize) -> Result<u64, Refusal> {
+        let elements = self.year.year().elements();
         let pool = Pool::new(pool)?;
-        let element = Portions::new(self.year.year().elements())
-            .nth(place)
-            .ok_or(Refusal::ArgumentOutOfRange)?;
+        if place >= elements.len() {
+            return Err(Refusal::ArgumentOutOfRange);
+        }
+        let element = Portions::new(elements).nth(place).unwrap();
         Ok(element.part(&self.rule, pool).cents)
     }
 

@@ -9,7 +9,7 @@ ghost use Rattle.year.specs.YearFile.{first_fault, year_of};
 use crate::filled::FilledYear;
 use crate::year::Year;
 use bits::refusal::Refusal;
-use yearfile::lay::{lay, lay_all};
+use yearfile::lay::{Lay, lay_all};
 use yearfile::length::announced;
 
 impl Year {
@@ -23,7 +23,7 @@ impl Year {
         if buffer.len() < 27 + announced(&lists.header) {
             return Err(Refusal::BufferShort);
         }
-        let past_header = lay(&lists.header, buffer, 0);
+        let past_header = lists.header.lay(buffer, 0);
         let past_points = lay_all(&lists.points, buffer, past_header);
         let past_elements = lay_all(&lists.elements, buffer, past_points);
         Ok(lay_all(&lists.uses, buffer, past_elements))

@@ -1,39 +1,85 @@
-// Records laid into a buffer one after another.
-ghost use Rattle.std.specs.Prelude.{◌≡◌, ◌+◌, ◌≤◌, length};
+// What has bytes of its own, laid into a buffer one after another.
+ghost use Rattle.std.specs.Prelude.{◌≡◌, ℕ, ◌+◌, ◌≤◌, List, length};
 ghost use Rattle.std.specs.List.{AllByRecursion, flat_map};
-ghost use Rattle.bits.specs.Forms.{record_bytes, InRange};
+ghost use Rattle.bits.specs.Forms.{InRange};
+ghost use Rattle.records.specs.Elements.{element_bytes, element_form};
+ghost use Rattle.records.specs.Headers.{header_bytes, HeaderIn};
+ghost use Rattle.records.specs.Points.{point_bytes, point_form};
+ghost use Rattle.records.specs.Uses.{use_bytes, use_form};
 ghost use Rattle.yearfile.specs.Bytes.{laid_at};
 
-use bits::row::Row;
+use crate::rows::lay;
+use records::element::Element;
+use records::header::Header;
+use records::network_use::NetworkUse;
+use records::point::Point;
 
-// Lays a record into the buffer from `at` on, and answers where it ends.
-pub fn lay<T: Row<N, M>, const N: usize, const M: usize>(
-    item: &T,
-    buffer: &mut [u8],
-    at: usize,
-) -> usize
-    requires ranged { InRange T.form item.now }
-    requires room { at + length (record_bytes T.form item.now) ≤ length buffer.old }
-    ensures after { buffer.new ≡ laid_at at (record_bytes T.form item.now) buffer.old }
-    ensures end { result ≡ at + length (record_bytes T.form item.now) }
-{
-    at + item.write(&mut buffer[at..], 0).unwrap()
+// What has bytes of its own.
+pub trait Lay {
+    ghost bytes: { Self → List ℕ };
+
+    ghost ranged: { Self → Type 0 };
+
+    // Lays the bytes into the buffer from `at` on, and answers where they end.
+    fn lay(&self, buffer: &mut [u8], at: usize) -> usize
+        requires ranged { ranged self.now }
+        requires room { at + length (bytes self.now) ≤ length buffer.old }
+        ensures after { buffer.new ≡ laid_at at (bytes self.now) buffer.old }
+        ensures end { result ≡ at + length (bytes self.now) };
 }
 
-// Lays records one after another from `at` on, and answers where they end.
-pub fn lay_all<T: Row<N, M>, const N: usize, const M: usize>(
-    items: &[T],
-    buffer: &mut [u8],
-    at: usize,
-) -> usize
-    requires ranged { AllByRecursion (InRange T.form) items.now }
-    requires room { at + length (flat_map (record_bytes T.form) items.now) ≤ length buffer.old }
-    ensures after { buffer.new ≡ laid_at at (flat_map (record_bytes T.form) items.now) buffer.old }
-    ensures end { result ≡ at + length (flat_map (record_bytes T.form) items.now) }
+// Records, each laid by the one function for all kinds.
+impl Lay for Header {
+    ghost bytes = { λ x. header_bytes x };
+
+    ghost ranged = { λ x. HeaderIn x };
+
+    #[tactic(auto, unfolding(records::specs::Headers::header_form))]
+    fn lay(&self, buffer: &mut [u8], at: usize) -> usize {
+        lay(self, buffer, at)
+    }
+}
+
+impl Lay for Point {
+    ghost bytes = { λ x. point_bytes x };
+
+    ghost ranged = { λ x. InRange point_form x };
+
+    fn lay(&self, buffer: &mut [u8], at: usize) -> usize {
+        lay(self, buffer, at)
+    }
+}
+
+impl Lay for Element {
+    ghost bytes = { λ x. element_bytes x };
+
+    ghost ranged = { λ x. InRange element_form x };
+
+    fn lay(&self, buffer: &mut [u8], at: usize) -> usize {
+        lay(self, buffer, at)
+    }
+}
+
+impl Lay for NetworkUse {
+    ghost bytes = { λ x. use_bytes x };
+
+    ghost ranged = { λ x. InRange use_form x };
+
+    fn lay(&self, buffer: &mut [u8], at: usize) -> usize {
+        lay(self, buffer, at)
+    }
+}
+
+// Lays items one after another from `at` on, and answers where they end.
+pub fn lay_all<T: Lay>(items: &[T], buffer: &mut [u8], at: usize) -> usize
+    requires ranged { AllByRecursion T.ranged items.now }
+    requires room { at + length (flat_map T.bytes items.now) ≤ length buffer.old }
+    ensures after { buffer.new ≡ laid_at at (flat_map T.bytes items.now) buffer.old }
+    ensures end { result ≡ at + length (flat_map T.bytes items.now) }
 {
     let mut end = at;
     for item in items {
-        end = lay(item, buffer, end);
+        end = item.lay(buffer, end);
     }
     end
 }

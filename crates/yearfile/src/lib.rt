@@ -4,5 +4,6 @@
 pub mod lay;
 pub mod length;
 pub mod record;
+pub mod rows;
 pub mod stream;
 pub mod tells;

@@ -1,5 +1,4 @@
 use Rattle.std.proofs.Common.{◌∙◌, arith, length-append}
-use Rattle.bits.specs.Forms.{record_bytes}
 use Rattle.yearfile.proofs.Laying.{next, laid_more}
 use Rattle.yearfile.proofs.lay.lay_all.Goals as goal
 
@@ -16,6 +15,6 @@ loop-item-preserved g c =
     let l = simp length-append at so.end in
     record {
       ranged = so.ranged.1;
-      after = rw (c.lay-end.ensures.end, c.lay-end.ensures.after) (laid_more c.loop-item.end (record_bytes g.T.Row.form c.item-item.result) _ c.loop-item.buffer (omega arith) ∙ so.after);
+      after = rw (c.lay-end.ensures.end, c.lay-end.ensures.after) (laid_more c.loop-item.end (g.T.Lay.bytes c.item-item.result) _ c.loop-item.buffer (omega arith) ∙ so.after);
       end = omega arith;
     }

@@ -1,4 +1,5 @@
 use Rattle.std.proofs.Common.{length, arith}
+use Rattle.records.specs.Headers.{header_form}
 use Rattle.year.proofs.Rounds.{header_ranged, points_ranged, elements_ranged, uses_ranged, written_then_read}
 use Rattle.year.proofs.Sending.{sound_of, short, fits, rooms, sent}
 use Rattle.year.proofs.year.Year.write.Goals as goal
@@ -8,6 +9,7 @@ returns-then-buffer-announced-clause-refused c =
     rw (← c.in_ok-lists.ensures.lends) (short _ (sound_of c.in_ok-lists.field-0) _ (omega arith))
 
 pub lay-past_header-requires : goal.lay-past_header-requires
+unfolding header_form
 lay-past_header-requires c =
     let so = sound_of c.in_ok-lists.field-0 in
     let r = rooms _ so (length c.args.buffer.now) (omega arith) in

@@ -2,7 +2,7 @@ use Rattle.std.proofs.Common.{length, ap, ◌∙◌, arith}
 use Rattle.std.proofs.lemmas.List.{take_rest, length-drop}
 use Rattle.bits.proofs.Trips.{length_record}
 use Rattle.yearfile.proofs.Laying.{written}
-use Rattle.yearfile.proofs.lay.lay.Goals as goal
+use Rattle.yearfile.proofs.rows.lay.Goals as goal
 
 pub unwrap-requires : goal.unwrap-requires
 unwrap-requires g c =
