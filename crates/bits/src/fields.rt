@@ -77,6 +77,8 @@ impl Field {
     }
 }
 
+// Rows of any length: where it is known only at a call, no type says that the fields are narrow and as many as the values.
+
 // The values that bytes hold in a row of fields.
 pub fn decode<const N: usize>(fields: &[Field], bytes: &[u8]) -> [u64; N]
     requires narrow { Narrow fields.now }

@@ -1,4 +1,4 @@
-// Whole rows of fields, read from bytes and written to a buffer.
+// Whole rows of fields of any length, read from bytes and written to a buffer. No type says of them what a `Layout` says.
 ghost use Rattle.std.specs.Prelude.{◌≡◌, ℕ, ◌*◌, ◌^◌, ◌<◌, ◌≤◌, length, IfOk, OnOk};
 ghost use Rattle.std.specs.Result.{result_err};
 ghost use Rattle.bits.specs.Bits.{bits, bytes_of};

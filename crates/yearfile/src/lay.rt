@@ -28,7 +28,8 @@ pub trait Lay {
         ensures end { result ≡ at + length (bytes self.now) };
 }
 
-// Records, each laid by the one function for all kinds.
+// Records, each laid by the one function for all kinds. One impl for all of them is refused: the numbers of a `Row` stand neither
+// in this trait nor in a type.
 impl Lay for Header {
     ghost bytes = { λ x. header_bytes x };
 
